@@ -1,0 +1,6 @@
+// The package insert of the controls, as bytes: read whole, or refused with a number and a row.
+mod blocks;
+mod checks;
+mod fields;
+mod header;
+mod names;
