@@ -5,3 +5,4 @@ pub mod Below
 pub mod Names
 pub mod Blocks
 pub mod Checks
+pub mod Refusals

@@ -4,3 +4,5 @@ mod checks;
 mod fields;
 mod header;
 mod names;
+mod reader;
+mod refusals;

@@ -1,0 +1,36 @@
+-- What is known of a sheet at which nothing is refused, or of which a test says something.
+-- Assumes nothing.
+use Prim.Native.Nat.{ℕ, _+_, _<_, _≤_}
+use mathlib.Core.Path.{_≡_, refl, sym, ap}
+use mathlib.Core.Bool.{Bool, true, false, not, _||_}
+use mathlib.Core.List.{List}
+use lib.Dec.{ltb, leb, eqb}
+use lib.ListN.{length}
+use native.Mathlib.Omega.{arith}
+use Rattle.std.proofs.shelf.Tests.{lt-ltb, ltb-false, or-left, or-parts}
+use Rattle.std.specs.declared.option.Option.{Option}
+use Rattle.std.specs.declared.option.Option.the-variants.{Some, None}
+use Rattle.sheet.specs.declared.header.Header.{Header}
+use Rattle.sheet.specs.Header.{header-of}
+use Rattle.sheet.specs.Fields.{row-place}
+use Rattle.sheet.specs.Blocks.{rows-block, names-block, misplaced, apart, wrong-layout}
+use Rattle.sheet.specs.Checks.{wrong-length, wrong-row-count}
+use Rattle.sheet.specs.Refusals.{refusal-of, whole-refusal, whole-tests, at-row}
+use Rattle.sheet.proofs.FirstOf.{refused-at, all-passed}
+
+-- a sheet of fewer than ten bytes is refused with 1
+pub short-refused : (s : List ℕ) → length s < 10 → Some (1, 0) ≡ refusal-of s
+unfolding whole-refusal
+short-refused s h =
+    let e : true ≡ wrong-length (header-of s) (length s) =
+      sym (or-left (ltb (length s) 10) (ltb 4096 (length s) || not (eqb (header-of s .«sheet_length») (length s))) (lt-ltb (length s) 10 h)) in
+    let w : Some (1, 0) ≡ at-row 0 (whole-refusal s (header-of s)) = refused-at 0 0 (whole-tests s (header-of s)) tt e in
+    rw (← w)
+
+module _ (s : List ℕ) (h : Header) (n : None ≡ at-row 0 (whole-refusal s h)) where
+  pub layout-right : wrong-layout h (length s) ≡ false
+  unfolding whole-refusal
+  layout-right = sym (all-passed 0 (whole-tests s h) n .1 .1 .0)
+
+  pub rows-within : row-place h (h .«row_count») ≤ length s
+  rows-within = ltb-false (length s) (rows-block h .end) (or-parts _ _ (or-parts (misplaced (rows-block h) (length s)) _ layout-right .0) .1)

@@ -1,0 +1,24 @@
+use Prim.Native.Nat.{_<_}
+use mathlib.Core.Path.{_≡_, sym, ap, _∙_}
+use native.Mathlib.Omega.{arith}
+use Rattle.std.proofs.shelf.Results.{err-from-errBy}
+use Rattle.sheet.specs.Below.{first-below}
+use Rattle.sheet.specs.Refusals.{refusal-at}
+use Rattle.sheet.proofs.Below.{first-more, first-found}
+use Rattle.sheet.proofs.reader.check_rows.Needs as need
+
+pub returns-in-Break-check-row : need.returns-in-Break-check-row
+returns-in-Break-check-row c =
+    let p = err-from-errBy (c .from-residual .result) (c .from-residual .ensures .1) in
+    let l : c .loop-row .row < c .args .header .«row_count» = omega arith in
+    rw (p .1, p .2)
+    (sym (first-found (refusal-at (c .args .bytes .now) (c .args .header)) (c .loop-row .row) (c .args .header .«row_count») _ l (c .loop-row .inv) (sym (c .in-Break-check-row .ensures tt))))
+
+pub loop-row-again : need.loop-row-again
+loop-row-again c =
+    first-more (refusal-at (c .args .bytes .now) (c .args .header)) (c .loop-row .row) (c .loop-row .inv) (sym (c .in-Continue-check-row .ensures tt))
+
+pub returns : need.returns
+returns c =
+    let e : c .loop-row .row ≡ c .args .header .«row_count» = omega arith in
+    sym (c .loop-row .inv) ∙ ap (first-below (refusal-at (c .args .bytes .now) (c .args .header))) e
