@@ -12,10 +12,12 @@ use Rattle.std.specs.declared.option.Option.{Option}
 use Rattle.std.specs.declared.option.Option.the-variants.{Some, None}
 use Rattle.sheet.specs.declared.header.Header.{Header}
 use Rattle.sheet.specs.Header.{header-of}
-use Rattle.sheet.specs.Fields.{row-place}
+use Rattle.sheet.specs.Fields.{row-place, row-fields}
 use Rattle.sheet.specs.Blocks.{rows-block, names-block, misplaced, apart, wrong-layout}
-use Rattle.sheet.specs.Checks.{wrong-length, wrong-row-count}
-use Rattle.sheet.specs.Refusals.{refusal-of, whole-refusal, whole-tests, at-row}
+use Rattle.sheet.specs.Checks.{wrong-length, wrong-range}
+use Rattle.sheet.specs.Refusals.{refusal-of, refusal-at, whole-refusal, whole-tests, row-refusal, row-tests, at-row}
+use Rattle.sheet.specs.Rows.{row-count}
+use Rattle.sheet.proofs.Below.{or-else-none, none-below}
 use Rattle.sheet.proofs.FirstOf.{refused-at, all-passed}
 
 -- a sheet of fewer than ten bytes is refused with 1
@@ -34,3 +36,23 @@ module _ (s : List ℕ) (h : Header) (n : None ≡ at-row 0 (whole-refusal s h))
 
   pub rows-within : row-place h (h .«row_count») ≤ length s
   rows-within = ltb-false (length s) (rows-block h .end) (or-parts _ _ (or-parts (misplaced (rows-block h) (length s)) _ layout-right .0) .1)
+
+module _ (s : List ℕ) (a : refusal-of s ≡ None) where
+  pub whole-accepted : None ≡ at-row 0 (whole-refusal s (header-of s))
+  whole-accepted = sym (or-else-none _ _ a .0)
+
+  pub long-enough : 10 ≤ length s
+  unfolding whole-refusal
+  long-enough =
+      ltb-false (length s) 10 (or-parts (ltb (length s) 10) _ (sym (all-passed 0 (whole-tests s (header-of s)) whole-accepted .0)) .0)
+
+  module _ (k : ℕ) (there : k < row-count s) where
+    pub row-accepted : None ≡ refusal-at s (header-of s) k
+    row-accepted = sym (none-below (refusal-at s (header-of s)) (row-count s) (or-else-none (at-row 0 (whole-refusal s (header-of s))) _ a .1) k there)
+
+    pub row-within : row-place (header-of s) k + 21 ≤ length s
+    row-within = omega (arith, rows-within s (header-of s) whole-accepted)
+
+    pub range-right : wrong-range (row-fields s (header-of s) k) ≡ false
+    unfolding row-refusal
+    range-right = sym (all-passed k (row-tests s (header-of s) (row-fields s (header-of s) k) k) row-accepted .1 .0)

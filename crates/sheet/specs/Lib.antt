@@ -6,3 +6,4 @@ pub mod Names
 pub mod Blocks
 pub mod Checks
 pub mod Refusals
+pub mod Rows

@@ -5,7 +5,7 @@ use crate::header::Header;
 
 // A part of the sheet: its first byte and the byte after its last, from the sheet's first byte.
 #[derive(Clone, Copy)]
-pub struct Block {
+pub(crate) struct Block {
     pub start: usize,
     pub end: usize,
 }
@@ -38,7 +38,7 @@ fn are_apart(a: Block, b: Block) -> bool
     a.end <= b.start || b.end <= a.start
 }
 
-pub fn is_wrong_layout(header: Header, length: usize) -> bool
+pub(crate) fn is_wrong_layout(header: Header, length: usize) -> bool
     ensures { λ r. ⌜ r ≡ wrong-layout header length ⌝ }
 {
     let rows = rows_of(header);

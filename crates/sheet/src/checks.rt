@@ -11,31 +11,31 @@ use crate::names::holds_other_byte;
 use crate::names::stands_before;
 use tolerance::is_listed;
 
-pub fn is_wrong_length(header: Header, length: usize) -> bool
+pub(crate) fn is_wrong_length(header: Header, length: usize) -> bool
     ensures { λ r. ⌜ r ≡ wrong-length header length ⌝ }
 {
     length < 10 || length > 4_096 || usize::from(header.sheet_length) != length
 }
 
-pub fn is_wrong_row_count(header: Header) -> bool
+pub(crate) fn is_wrong_row_count(header: Header) -> bool
     ensures { λ r. ⌜ r ≡ wrong-row-count header ⌝ }
 {
     header.row_count == 0 || header.row_count > 16
 }
 
-pub fn is_unknown_table(fields: Fields) -> bool
+pub(crate) fn is_unknown_table(fields: Fields) -> bool
     ensures { λ r. ⌜ r ≡ unknown-table fields ⌝ }
 {
     fields.table != 0 && !is_listed(fields.table)
 }
 
-pub fn is_wrong_range(fields: Fields) -> bool
+pub(crate) fn is_wrong_range(fields: Fields) -> bool
     ensures { λ r. ⌜ r ≡ wrong-range fields ⌝ }
 {
     fields.target == 0 || fields.lower >= fields.target || fields.upper <= fields.target || fields.upper > 99_999
 }
 
-pub fn is_wrong_name(bytes: &[u8], header: Header, fields: Fields) -> bool
+pub(crate) fn is_wrong_name(bytes: &[u8], header: Header, fields: Fields) -> bool
     ensures { λ r. ⌜ r ≡ wrong-name (now (bytes .entry)) header fields ⌝ }
 {
     fields.name_length < 1
@@ -44,7 +44,7 @@ pub fn is_wrong_name(bytes: &[u8], header: Header, fields: Fields) -> bool
         || holds_other_byte(bytes_of_name(bytes, header, fields))
 }
 
-pub fn is_repeated_name(bytes: &[u8], header: Header, fields: Fields, row: u32) -> bool
+pub(crate) fn is_repeated_name(bytes: &[u8], header: Header, fields: Fields, row: u32) -> bool
     requires { ⌜ row-place header row ≤ length (now bytes) ⌝ }
     ensures { λ r. ⌜ r ≡ repeated-name (now (bytes .entry)) header fields row ⌝ }
 {

@@ -8,7 +8,7 @@ use crate::header::Header;
 
 // Target and ends are in hundredths of the unit, the offset counts from the start of the name block.
 #[derive(Clone, Copy)]
-pub struct Fields {
+pub(crate) struct Fields {
     pub table: u16,
     pub target: u32,
     pub lower: u32,
@@ -19,7 +19,7 @@ pub struct Fields {
 }
 
 // The fields of the row at the front and the bytes after it; nothing where there are fewer than 21 bytes.
-pub fn split_fields(bytes: &[u8]) -> Option<(Fields, &[u8])>
+pub(crate) fn split_fields(bytes: &[u8]) -> Option<(Fields, &[u8])>
     ensures { λ r. ⌜ Cases r (length (now (bytes .entry)) < 21) (λ x. (21 ≤ length (now (bytes .entry))) × (x .0 ≡ fields-of (now (bytes .entry))) × (now (x .1) ≡ drop 21 (now (bytes .entry)))) ⌝ }
 {
     let [n1, n0, t3, t2, t1, t0, l3, l2, l1, l0, u3, u2, u1, u0, m3, m2, m1, m0, length, o1, o0, rest @ ..] = bytes else {
@@ -38,14 +38,14 @@ pub fn split_fields(bytes: &[u8]) -> Option<(Fields, &[u8])>
 }
 
 // Where a row starts, from the sheet's first byte.
-pub fn place_of_row(header: Header, row: u32) -> usize
+pub(crate) fn place_of_row(header: Header, row: u32) -> usize
     ensures { λ r. ⌜ r ≡ row-place header row ⌝ }
 {
     usize::from(header.rows_offset) + 21 * row as usize
 }
 
 // The fields of a row that lies within the sheet.
-pub fn row_fields(bytes: &[u8], header: Header, row: u32) -> Fields
+pub(crate) fn row_fields(bytes: &[u8], header: Header, row: u32) -> Fields
     requires { ⌜ row-place header row + 21 ≤ length (now bytes) ⌝ }
     ensures { λ r. ⌜ r ≡ row-fields (now (bytes .entry)) header row ⌝ }
 {

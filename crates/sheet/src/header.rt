@@ -7,7 +7,7 @@ ghost use Rattle.sheet.specs.Header.{header-of};
 
 // Offsets count from the sheet's first byte.
 #[derive(Clone, Copy)]
-pub struct Header {
+pub(crate) struct Header {
     pub sheet_length: u16,
     pub row_count: u16,
     pub rows_offset: u16,
@@ -16,7 +16,7 @@ pub struct Header {
 }
 
 // The header and the bytes after it; nothing where there are fewer than ten bytes.
-pub fn split_header(bytes: &[u8]) -> Option<(Header, &[u8])>
+pub(crate) fn split_header(bytes: &[u8]) -> Option<(Header, &[u8])>
     ensures { λ r. ⌜ Cases r (length (now (bytes .entry)) < 10) (λ x. (10 ≤ length (now (bytes .entry))) × (x .0 ≡ header-of (now (bytes .entry))) × (now (x .1) ≡ drop 10 (now (bytes .entry)))) ⌝ }
 {
     let [s1, s0, c1, c0, r1, r0, l1, l0, o1, o0, rest @ ..] = bytes else {

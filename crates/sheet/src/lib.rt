@@ -6,3 +6,10 @@ mod header;
 mod names;
 mod reader;
 mod refusals;
+mod rows;
+
+pub use reader::Sheet;
+pub use reader::read;
+pub use refusals::Refusal;
+pub use rows::Name;
+pub use rows::Row;

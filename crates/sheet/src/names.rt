@@ -19,13 +19,13 @@ fn part(bytes: &[u8], place: usize, count: usize) -> &[u8]
 }
 
 // Where the name of a row starts, from the sheet's first byte.
-pub fn place_of_name(header: Header, fields: Fields) -> usize
+pub(crate) fn place_of_name(header: Header, fields: Fields) -> usize
     ensures { λ r. ⌜ r ≡ name-place header fields ⌝ }
 {
     usize::from(header.names_offset) + usize::from(fields.name_offset)
 }
 
-pub fn bytes_of_name(bytes: &[u8], header: Header, fields: Fields) -> &[u8]
+pub(crate) fn bytes_of_name(bytes: &[u8], header: Header, fields: Fields) -> &[u8]
     ensures { λ r. ⌜ now r ≡ name-bytes (now (bytes .entry)) header fields ⌝ }
 {
     part(bytes, place_of_name(header, fields), usize::from(fields.name_length))
@@ -38,7 +38,7 @@ fn is_other_byte(byte: u8) -> bool
     !matches!(byte, b'A'..=b'Z' | b'0'..=b'9')
 }
 
-pub fn holds_other_byte(name: &[u8]) -> bool
+pub(crate) fn holds_other_byte(name: &[u8]) -> bool
     ensures { λ r. ⌜ r ≡ has-other-byte (now (name .entry)) ⌝ }
 {
     for byte in name {
@@ -56,7 +56,7 @@ fn is_same(a: &[u8], b: &[u8]) -> bool
 }
 
 // Whether one of the rows before this one has that name.
-pub fn stands_before(bytes: &[u8], header: Header, row: u32, name: &[u8]) -> bool
+pub(crate) fn stands_before(bytes: &[u8], header: Header, row: u32, name: &[u8]) -> bool
     requires { ⌜ row-place header row ≤ length (now bytes) ⌝ }
     ensures { λ r. ⌜ r ≡ same-name-before (now (bytes .entry)) header row (now (name .entry)) ⌝ }
 {

@@ -3,9 +3,11 @@ ghost use mathlib.Core.Path.{_≡_};
 ghost use Prim.Native.Nat.{_+_, _≤_, _<_};
 ghost use lib.ListN.{length};
 ghost use Rattle.std.specs.Vec.{made};
+ghost use Rattle.std.specs.declared.option.Option.the-variants.{None};
 ghost use Rattle.sheet.specs.Below.{first-below};
 ghost use Rattle.sheet.specs.Fields.{row-place};
 ghost use Rattle.sheet.specs.Refusals.{refusal-of, refusal-at, whole-refusal, row-refusal, at-row, refused-with};
+ghost use Rattle.sheet.specs.Rows.{row-count, Fields-if-there, row-if-there, Name-if-there};
 use crate::blocks::is_wrong_layout;
 use crate::checks::is_repeated_name;
 use crate::checks::is_unknown_table;
@@ -14,10 +16,16 @@ use crate::checks::is_wrong_name;
 use crate::checks::is_wrong_range;
 use crate::checks::is_wrong_row_count;
 use crate::fields::Fields;
+use crate::fields::place_of_row;
 use crate::fields::row_fields;
 use crate::header::Header;
 use crate::header::split_header;
+use crate::names::bytes_of_name;
+use crate::names::place_of_name;
 use crate::refusals::Refusal;
+use crate::rows::Name;
+use crate::rows::Row;
+use crate::rows::row_from;
 
 // A sheet that was accepted. It borrows the bytes.
 #[derive(Clone, Copy)]
@@ -87,4 +95,49 @@ pub fn read(bytes: &[u8]) -> Result<Sheet<'_>, Refusal>
     check_whole(bytes, header)?;
     check_rows(bytes, header)?;
     Ok(Sheet { bytes })
+}
+
+// Only `read` makes a sheet, so that what its bytes hold was accepted: the clauses below speak of that case.
+impl<'a> Sheet<'a> {
+    pub fn row_count(&self) -> u32
+        ensures { λ r. ⌜ (refusal-of (now (now (self .entry) .bytes)) ≡ None → r ≡ row-count (now (now (self .entry) .bytes))) ⌝ }
+    {
+        match split_header(self.bytes) {
+            Some((header, _)) => u32::from(header.row_count),
+            None => 0,
+        }
+    }
+
+    // The header and the fields of a row.
+    fn find(&self, row: u32) -> Option<(Header, Fields)>
+        ensures { λ r. ⌜ (refusal-of (now (now (self .entry) .bytes)) ≡ None → Fields-if-there (now (now (self .entry) .bytes)) row r) ⌝ }
+    {
+        let (header, _) = split_header(self.bytes)?;
+        if row >= u32::from(header.row_count) {
+            return None;
+        }
+        if place_of_row(header, row) + 21 > self.bytes.len() {
+            return None;
+        }
+        Some((header, row_fields(self.bytes, header, row)))
+    }
+
+    // The row of that number, counted from 0.
+    pub fn row(&self, row: u32) -> Option<Row>
+        ensures { λ r. ⌜ (refusal-of (now (now (self .entry) .bytes)) ≡ None → r ≡ row-if-there (now (now (self .entry) .bytes)) row) ⌝ }
+    {
+        let (_, fields) = self.find(row)?;
+        row_from(fields)
+    }
+
+    // The name of the row of that number, as a part of the sheet.
+    pub fn name(&self, row: u32) -> Option<Name<'a>>
+        ensures { λ r. ⌜ (refusal-of (now (now (self .entry) .bytes)) ≡ None → Name-if-there (now (now (self .entry) .bytes)) row r) ⌝ }
+    {
+        let (header, fields) = self.find(row)?;
+        Some(Name {
+            place: place_of_name(header, fields),
+            bytes: bytes_of_name(self.bytes, header, fields),
+        })
+    }
 }
