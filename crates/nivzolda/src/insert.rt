@@ -4,7 +4,6 @@ use sheet::Sheet;
 use sheet::read;
 use std::alloc::AllocError;
 use std::alloc::Global;
-use std::str;
 use crate::decimal::hundredths;
 
 fn reason(refusal: &Refusal) -> &'static str {
@@ -31,7 +30,7 @@ fn line(heap: Global, sheet: &Sheet, number: u32) -> Result<String, AllocError> 
     let (Some(row), Some(name)) = (sheet.row(number), sheet.name(number)) else {
         return Ok(String::new(heap));
     };
-    let label = str::from_utf8(name.bytes).unwrap_or("");
+    let label = std::str::from_utf8(name.bytes).unwrap_or("");
     let table = row.table;
     let target = hundredths(heap, row.target)?;
     let lower = hundredths(heap, row.lower)?;
