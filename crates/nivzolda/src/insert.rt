@@ -1,10 +1,13 @@
 // What the program says of a package insert.
+ghost use Rattle.sheet.specs.Rows.{Accepted};
+use crate::decimal::hundredths;
+use sheet::Name;
 use sheet::Refusal;
+use sheet::Row;
 use sheet::Sheet;
 use sheet::read;
 use std::alloc::AllocError;
 use std::alloc::Global;
-use crate::decimal::hundredths;
 
 fn reason(refusal: &Refusal) -> &'static str {
     match refusal {
@@ -26,10 +29,7 @@ fn refused(heap: Global, refusal: &Refusal) -> Result<String, AllocError> {
 }
 
 // One line for a row of the sheet.
-fn line(heap: Global, sheet: &Sheet, number: u32) -> Result<String, AllocError> {
-    let (Some(row), Some(name)) = (sheet.row(number), sheet.name(number)) else {
-        return Ok(String::new(heap));
-    };
+fn line(heap: Global, number: u32, row: Row, name: Name) -> Result<String, AllocError> {
     let label = std::str::from_utf8(name.bytes).unwrap_or("");
     let table = row.table;
     let target = hundredths(heap, row.target)?;
@@ -41,11 +41,15 @@ fn line(heap: Global, sheet: &Sheet, number: u32) -> Result<String, AllocError> 
     format!(heap, "row {number} {label} table {table} target {target} ends {lower} {upper} last minute {last} limit {limit} name at {place}\n")
 }
 
-fn accepted(heap: Global, sheet: &Sheet) -> Result<String, AllocError> {
+fn accepted(heap: Global, sheet: &Sheet) -> Result<String, AllocError>
+    requires { ⌜ Accepted (now sheet) ⌝ }
+{
     let rows = sheet.row_count();
     let mut text = format!(heap, "accepted, {rows} rows\n")?;
     for number in 0..rows {
-        text.push_str(line(heap, sheet, number)?.as_str())?;
+        let row = sheet.row(number).unwrap();
+        let name = sheet.name(number).unwrap();
+        text.push_str(line(heap, number, row, name)?.as_str())?;
     }
     Ok(text)
 }

@@ -2,14 +2,13 @@
 -- Assumes nothing.
 use Prim.Native.Nat.{ℕ, _<_, _≤_}
 use mathlib.Core.Path.{_≡_}
-use mathlib.Core.Bool.{cond}
 use mathlib.Core.List.{List}
-use lib.Dec.{ltb}
 use denote.Ref.{now}
 use Rattle.std.specs.Options.{Cases}
 use Rattle.std.specs.declared.option.Option.{Option}
-use Rattle.std.specs.declared.option.Option.the-variants.{Some, None}
+use Rattle.std.specs.declared.option.Option.the-variants.{None}
 use Rattle.tolerance.specs.Limits.{limit-of}
+use Rattle.sheet.specs.declared.reader.Sheet.{Sheet}
 use Rattle.sheet.specs.declared.rows.Row.{Row}
 use Rattle.sheet.specs.declared.rows.Name.{Name}
 use Rattle.sheet.specs.declared.header.Header.{Header}
@@ -17,15 +16,23 @@ use Rattle.sheet.specs.declared.fields.Fields.{Fields}
 use Rattle.sheet.specs.Header.{header-of}
 use Rattle.sheet.specs.Fields.{row-fields}
 use Rattle.sheet.specs.Names.{name-place, name-of}
+use Rattle.sheet.specs.Refusals.{refusal-of}
 
--- an assay is known by its row number: 0 up to, and not with, this
+-- the bytes that a reader borrows
+abbrev pub sheet-bytes : Sheet → List ℕ
+sheet-bytes x = now (x .bytes)
+
+-- no refusal applies to them
+abbrev pub Accepted : Sheet → Type 0
+Accepted x = refusal-of (sheet-bytes x) ≡ None
+
+-- an assay is known by its row number, which is below this
 abbrev pub row-count : List ℕ → ℕ
 row-count s = header-of s .«row_count»
 
--- the header, and the fields of row k, where there is such a row
-abbrev pub Fields-if-there : List ℕ → ℕ → Option (Header × Fields) → Type 0
-Fields-if-there s k r =
-    Cases r (row-count s ≤ k) (λ x. (k < row-count s) × (x .0 ≡ header-of s) × (x .1 ≡ row-fields s (header-of s) k))
+-- the upper end lies above the target and in range: so the limit fits 32 bits
+abbrev pub In-range : Fields → Type 0
+In-range f = (f .target < f .upper) × (f .upper ≤ 99999)
 
 -- what the fields say of an assay, and the limit that follows
 abbrev pub row-from : Fields → Row
@@ -42,12 +49,19 @@ row-from f =
 abbrev pub row-of : List ℕ → ℕ → Row
 row-of s k = row-from (row-fields s (header-of s) k)
 
--- row k, where there is such a row
-abbrev pub row-if-there : List ℕ → ℕ → Option Row
-row-if-there s k = cond (ltb k (row-count s)) (Some (row-of s k)) None
+-- where the name of row k starts, from the sheet's first byte
+abbrev pub name-place-of : List ℕ → ℕ → ℕ
+name-place-of s k = name-place (header-of s) (row-fields s (header-of s) k)
 
--- the name of row k with its place, where there is such a row
-abbrev pub Name-if-there : List ℕ → ℕ → Option Name → Type 0
-Name-if-there s k r =
-    Cases r (row-count s ≤ k)
-    (λ n. (k < row-count s) × (n .place ≡ name-place (header-of s) (row-fields s (header-of s) k)) × (now (n .bytes) ≡ name-of s (header-of s) k))
+-- an answer for row k: there is one exactly where there is such a row, and then it is right
+abbrev pub For-row : {X : Type 0} → List ℕ → ℕ → (X → Type 0) → Option X → Type 0
+For-row s k Right r = Cases r (row-count s ≤ k) (λ x. (k < row-count s) × Right x)
+
+abbrev pub Right-fields : List ℕ → ℕ → Header × Fields → Type 0
+Right-fields s k x = (x .0 ≡ header-of s) × (x .1 ≡ row-fields s (header-of s) k)
+
+abbrev pub Right-row : List ℕ → ℕ → Row → Type 0
+Right-row s k row = row ≡ row-of s k
+
+abbrev pub Right-name : List ℕ → ℕ → Name → Type 0
+Right-name s k name = (name .place ≡ name-place-of s k) × (now (name .bytes) ≡ name-of s (header-of s) k)

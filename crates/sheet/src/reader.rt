@@ -3,11 +3,11 @@ ghost use mathlib.Core.Path.{_≡_};
 ghost use Prim.Native.Nat.{_+_, _≤_, _<_};
 ghost use lib.ListN.{length};
 ghost use Rattle.std.specs.Vec.{made};
-ghost use Rattle.std.specs.declared.option.Option.the-variants.{None};
+ghost use Rattle.std.specs.Slices.{found};
 ghost use Rattle.sheet.specs.Below.{first-below};
 ghost use Rattle.sheet.specs.Fields.{row-place};
 ghost use Rattle.sheet.specs.Refusals.{refusal-of, refusal-at, whole-refusal, row-refusal, at-row, refused-with};
-ghost use Rattle.sheet.specs.Rows.{row-count, Fields-if-there, row-if-there, Name-if-there};
+ghost use Rattle.sheet.specs.Rows.{sheet-bytes, Accepted, row-count, In-range, For-row, Right-fields, Right-row, Right-name};
 use crate::blocks::is_wrong_layout;
 use crate::checks::is_repeated_name;
 use crate::checks::is_unknown_table;
@@ -87,7 +87,7 @@ fn check_rows(bytes: &[u8], header: Header) -> Result<(), Refusal>
 // Accepts the sheet, or says the first thing that is wrong with it.
 pub fn read(bytes: &[u8]) -> Result<Sheet<'_>, Refusal>
     ensures refusal { λ r. ⌜ refused-with r ≡ refusal-of (now (bytes .entry)) ⌝ }
-    ensures sheet { λ r. ⌜ made r (λ s. now (s .bytes) ≡ now (bytes .entry)) ⌝ }
+    ensures sheet { λ r. ⌜ made r (λ x. (sheet-bytes x ≡ now (bytes .entry)) × Accepted x) ⌝ }
 {
     let Some((header, _)) = split_header(bytes) else {
         return Err(Refusal::WrongLength);
@@ -97,10 +97,10 @@ pub fn read(bytes: &[u8]) -> Result<Sheet<'_>, Refusal>
     Ok(Sheet { bytes })
 }
 
-// Only `read` makes a sheet, so that what its bytes hold was accepted: the clauses below speak of that case.
+// Only `read` makes a sheet, so every sheet is accepted. No type says so: the clauses name it, and `find` tests again.
 impl<'a> Sheet<'a> {
     pub fn row_count(&self) -> u32
-        ensures { λ r. ⌜ (refusal-of (now (now (self .entry) .bytes)) ≡ None → r ≡ row-count (now (now (self .entry) .bytes))) ⌝ }
+        ensures { λ r. ⌜ (Accepted (now (self .entry)) → r ≡ row-count (sheet-bytes (now (self .entry)))) ⌝ }
     {
         match split_header(self.bytes) {
             Some((header, _)) => u32::from(header.row_count),
@@ -108,9 +108,10 @@ impl<'a> Sheet<'a> {
         }
     }
 
-    // The header and the fields of a row.
+    // The header and the fields of a row, counted from 0. In an accepted sheet only the first test can fail.
     fn find(&self, row: u32) -> Option<(Header, Fields)>
-        ensures { λ r. ⌜ (refusal-of (now (now (self .entry) .bytes)) ≡ None → Fields-if-there (now (now (self .entry) .bytes)) row r) ⌝ }
+        ensures fields { λ r. ⌜ (Accepted (now (self .entry)) → For-row (sheet-bytes (now (self .entry))) row (Right-fields (sheet-bytes (now (self .entry))) row) r) ⌝ }
+        ensures range { λ r. ⌜ found r (λ x. In-range (x .1)) ⌝ }
     {
         let (header, _) = split_header(self.bytes)?;
         if row >= u32::from(header.row_count) {
@@ -119,20 +120,24 @@ impl<'a> Sheet<'a> {
         if place_of_row(header, row) + 21 > self.bytes.len() {
             return None;
         }
-        Some((header, row_fields(self.bytes, header, row)))
+        let fields = row_fields(self.bytes, header, row);
+        if is_wrong_range(fields) {
+            return None;
+        }
+        Some((header, fields))
     }
 
     // The row of that number, counted from 0.
     pub fn row(&self, row: u32) -> Option<Row>
-        ensures { λ r. ⌜ (refusal-of (now (now (self .entry) .bytes)) ≡ None → r ≡ row-if-there (now (now (self .entry) .bytes)) row) ⌝ }
+        ensures { λ r. ⌜ (Accepted (now (self .entry)) → For-row (sheet-bytes (now (self .entry))) row (Right-row (sheet-bytes (now (self .entry))) row) r) ⌝ }
     {
         let (_, fields) = self.find(row)?;
-        row_from(fields)
+        Some(row_from(fields))
     }
 
     // The name of the row of that number, as a part of the sheet.
     pub fn name(&self, row: u32) -> Option<Name<'a>>
-        ensures { λ r. ⌜ (refusal-of (now (now (self .entry) .bytes)) ≡ None → Name-if-there (now (now (self .entry) .bytes)) row r) ⌝ }
+        ensures { λ r. ⌜ (Accepted (now (self .entry)) → For-row (sheet-bytes (now (self .entry))) row (Right-name (sheet-bytes (now (self .entry))) row) r) ⌝ }
     {
         let (header, fields) = self.find(row)?;
         Some(Name {

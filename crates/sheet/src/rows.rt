@@ -1,10 +1,6 @@
 // What a sheet hands out: a row with its limit, and a name with its place.
 ghost use mathlib.Core.Path.{_≡_};
-ghost use mathlib.Core.Bool.{cond};
-ghost use Rattle.std.specs.declared.option.Option.the-variants.{Some, None};
-ghost use Rattle.sheet.specs.Checks.{wrong-range};
-ghost use Rattle.sheet.specs.Rows.{row-from};
-use crate::checks::is_wrong_range;
+ghost use Rattle.sheet.specs.Rows.{In-range, row-from};
 use crate::fields::Fields;
 use tolerance::limit;
 
@@ -27,19 +23,17 @@ pub struct Name<'a> {
     pub bytes: &'a [u8],
 }
 
-// The row that the fields make; nothing where the ends do not enclose the target or lie out of range.
-pub(crate) fn row_from(fields: Fields) -> Option<Row>
-    ensures { λ r. ⌜ r ≡ cond (wrong-range fields) None (Some (row-from fields)) ⌝ }
+// The row that the fields make.
+pub(crate) fn row_from(fields: Fields) -> Row
+    requires { ⌜ In-range fields ⌝ }
+    ensures { λ r. ⌜ r ≡ row-from fields ⌝ }
 {
-    if is_wrong_range(fields) {
-        return None;
-    }
-    Some(Row {
+    Row {
         table: fields.table,
         target: fields.target,
         lower: fields.lower,
         upper: fields.upper,
         last_minute: fields.last_minute,
         limit: limit(fields.table, fields.target, fields.lower, fields.upper) as u32,
-    })
+    }
 }

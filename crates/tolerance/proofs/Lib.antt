@@ -1,1 +1,2 @@
 pub mod FirstThat
+pub mod LimitBound
