@@ -13,10 +13,13 @@ fn reason(refusal: &Refusal) -> &'static str {
     match refusal {
         Refusal::WrongLength => "under 10 or over 4096 bytes, or not the stated length",
         Refusal::WrongRowCount => "no rows, or more than 16",
-        Refusal::WrongLayout => "rows or names start in the header, end beyond the sheet, or overlap",
+        Refusal::WrongLayout =>
+            "rows or names start in the header, end beyond the sheet, or overlap",
         Refusal::UnknownTable { .. } => "the table number is neither 0 nor in the table",
-        Refusal::WrongRange { .. } => "the target is 0, the ends do not enclose it, or the upper end is over 999.99",
-        Refusal::WrongName { .. } => "the name is not 1 to 12 bytes, lies outside its block, or has a byte other than A to Z and 0 to 9",
+        Refusal::WrongRange { .. } =>
+            "the target is 0, the ends do not enclose it, or the upper end is over 999.99",
+        Refusal::WrongName { .. } =>
+            "the name is not 1 to 12 bytes, lies outside its block, or has a byte other than A to Z and 0 to 9",
         Refusal::RepeatedName { .. } => "an earlier row has that name",
     }
 }
@@ -28,9 +31,18 @@ fn refused(heap: Global, refusal: &Refusal) -> Result<String, AllocError> {
     format!(heap, "refused {number} at row {row}: {reason}\n")
 }
 
+// The bytes of a name as text: they are letters and digits.
+fn label(heap: Global, name: Name) -> Result<String, AllocError> {
+    let mut text = String::new(heap);
+    for byte in name.bytes {
+        text.push(char::from(*byte))?;
+    }
+    Ok(text)
+}
+
 // One line for a row of the sheet.
 fn line(heap: Global, number: u32, row: Row, name: Name) -> Result<String, AllocError> {
-    let label = std::str::from_utf8(name.bytes).unwrap_or("");
+    let label = label(heap, name)?;
     let table = row.table;
     let target = hundredths(heap, row.target)?;
     let lower = hundredths(heap, row.lower)?;
@@ -38,7 +50,10 @@ fn line(heap: Global, number: u32, row: Row, name: Name) -> Result<String, Alloc
     let last = row.last_minute;
     let limit = row.limit;
     let place = name.place;
-    format!(heap, "row {number} {label} table {table} target {target} ends {lower} {upper} last minute {last} limit {limit} name at {place}\n")
+    format!(
+        heap,
+        "row {number} {label} table {table} target {target} ends {lower} {upper} last minute {last} limit {limit} name at {place}\n"
+    )
 }
 
 fn accepted(heap: Global, sheet: &Sheet) -> Result<String, AllocError>

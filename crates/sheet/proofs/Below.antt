@@ -20,9 +20,10 @@ module _ (test : ℕ → Bool) where
   pub some-found : (i n : ℕ) → i < n → test i ≡ true → some-below test n ≡ true
   some-found i zero h t = absurd (not-suc-le-zero h)
   some-found i (suc n) h t =
-      elim (at-or-below i n h)
-        [ inl e ↦ or-right (some-below test n) (test n) (subst (λ (k : ℕ). test k ≡ true) e t)
-        | inr l ↦ or-left (some-below test n) (test n) (some-found i n l t) ]
+      elim (at-or-below i n h) [
+        | inl e ↦ or-right (some-below test n) (test n) (subst (λ (k : ℕ). test k ≡ true) e t)
+        | inr l ↦ or-left (some-below test n) (test n) (some-found i n l t)
+      ]
 
   pub some-more : (i : ℕ) → some-below test i ≡ false → test i ≡ false → some-below test (i + 1) ≡ false
   some-more i h t = rw add-one (or-from (some-below test i) (test i) h t)
@@ -39,14 +40,16 @@ module _ {X : Type 0} (find : ℕ → Option X) where
   pub first-found : (i n : ℕ) (x : X) → i < n → first-below find i ≡ None → find i ≡ Some x → first-below find n ≡ Some x
   first-found i zero x h b t = absurd (not-suc-le-zero h)
   first-found i (suc n) x h b t =
-      elim (at-or-below i n h)
-        [ inl e ↦ rw (← e, b, t)
-        | inr l ↦ rw (first-found i n x l b t) ]
+      elim (at-or-below i n h) [
+        | inl e ↦ rw (← e, b, t)
+        | inr l ↦ rw (first-found i n x l b t)
+      ]
 
   -- nothing found below n: nothing at any number below it
   pub none-below : (n : ℕ) → first-below find n ≡ None → (i : ℕ) → i < n → find i ≡ None
   none-below zero h i l = absurd (not-suc-le-zero l)
   none-below (suc n) h i l =
-      elim (at-or-below i n l)
-        [ inl e ↦ subst (λ (k : ℕ). find k ≡ None) (sym e) (or-else-none (first-below find n) (find n) h .1)
-        | inr m ↦ none-below n (or-else-none (first-below find n) (find n) h .0) i m ]
+      elim (at-or-below i n l) [
+        | inl e ↦ subst (λ (k : ℕ). find k ≡ None) (sym e) (or-else-none (first-below find n) (find n) h .1)
+        | inr m ↦ none-below n (or-else-none (first-below find n) (find n) h .0) i m
+      ]

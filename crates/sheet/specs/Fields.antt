@@ -16,7 +16,7 @@ fields-of s =
       upper = number32 s 10;
       «last_minute» = number32 s 14;
       «name_length» = getD s 18 0;
-      «name_offset» = number16 s 19
+      «name_offset» = number16 s 19;
     }
 
 -- where row k starts: rows of 21 bytes follow one another

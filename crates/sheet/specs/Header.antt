@@ -12,5 +12,5 @@ header-of s =
       «row_count» = number16 s 2;
       «rows_offset» = number16 s 4;
       «names_length» = number16 s 6;
-      «names_offset» = number16 s 8
+      «names_offset» = number16 s 8;
     }

@@ -43,7 +43,7 @@ row-from f =
       lower = f .lower;
       upper = f .upper;
       «last_minute» = f .«last_minute»;
-      limit = limit-of (f .table) (f .target) (f .lower) (f .upper)
+      limit = limit-of (f .table) (f .target) (f .lower) (f .upper);
     }
 
 abbrev pub row-of : List ℕ → ℕ → Row

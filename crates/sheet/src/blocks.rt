@@ -14,14 +14,20 @@ fn rows_of(header: Header) -> Block
     ensures { λ r. ⌜ r ≡ rows-block header ⌝ }
 {
     let start = usize::from(header.rows_offset);
-    Block { start, end: start + 21 * usize::from(header.row_count) }
+    Block {
+        start,
+        end: start + 21 * usize::from(header.row_count),
+    }
 }
 
 fn names_of(header: Header) -> Block
     ensures { λ r. ⌜ r ≡ names-block header ⌝ }
 {
     let start = usize::from(header.names_offset);
-    Block { start, end: start + usize::from(header.names_length) }
+    Block {
+        start,
+        end: start + usize::from(header.names_length),
+    }
 }
 
 // Whether the block starts in the header or ends beyond the sheet.

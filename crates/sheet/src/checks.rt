@@ -32,7 +32,10 @@ pub(crate) fn is_unknown_table(fields: Fields) -> bool
 pub(crate) fn is_wrong_range(fields: Fields) -> bool
     ensures { λ r. ⌜ r ≡ wrong-range fields ⌝ }
 {
-    fields.target == 0 || fields.lower >= fields.target || fields.upper <= fields.target || fields.upper > 99_999
+    fields.target == 0
+        || fields.lower >= fields.target
+        || fields.upper <= fields.target
+        || fields.upper > 99_999
 }
 
 pub(crate) fn is_wrong_name(bytes: &[u8], header: Header, fields: Fields) -> bool
@@ -40,7 +43,8 @@ pub(crate) fn is_wrong_name(bytes: &[u8], header: Header, fields: Fields) -> boo
 {
     fields.name_length < 1
         || fields.name_length > 12
-        || u32::from(fields.name_offset) + u32::from(fields.name_length) > u32::from(header.names_length)
+        || u32::from(fields.name_offset) + u32::from(fields.name_length)
+            > u32::from(header.names_length)
         || holds_other_byte(bytes_of_name(bytes, header, fields))
 }
 

@@ -22,7 +22,31 @@ pub(crate) struct Fields {
 pub(crate) fn split_fields(bytes: &[u8]) -> Option<(Fields, &[u8])>
     ensures { λ r. ⌜ Cases r (length (now (bytes .entry)) < 21) (λ x. (21 ≤ length (now (bytes .entry))) × (x .0 ≡ fields-of (now (bytes .entry))) × (now (x .1) ≡ drop 21 (now (bytes .entry)))) ⌝ }
 {
-    let [n1, n0, t3, t2, t1, t0, l3, l2, l1, l0, u3, u2, u1, u0, m3, m2, m1, m0, length, o1, o0, rest @ ..] = bytes else {
+    let [
+        n1,
+        n0,
+        t3,
+        t2,
+        t1,
+        t0,
+        l3,
+        l2,
+        l1,
+        l0,
+        u3,
+        u2,
+        u1,
+        u0,
+        m3,
+        m2,
+        m1,
+        m0,
+        length,
+        o1,
+        o0,
+        rest @ ..,
+    ] = bytes
+    else {
         return None;
     };
     let fields = Fields {

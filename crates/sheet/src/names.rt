@@ -28,7 +28,11 @@ pub(crate) fn place_of_name(header: Header, fields: Fields) -> usize
 pub(crate) fn bytes_of_name(bytes: &[u8], header: Header, fields: Fields) -> &[u8]
     ensures { λ r. ⌜ now r ≡ name-bytes (now (bytes .entry)) header fields ⌝ }
 {
-    part(bytes, place_of_name(header, fields), usize::from(fields.name_length))
+    part(
+        bytes,
+        place_of_name(header, fields),
+        usize::from(fields.name_length),
+    )
 }
 
 // Whether the byte is none of A to Z and 0 to 9.

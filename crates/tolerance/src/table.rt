@@ -14,23 +14,73 @@ pub struct ToleranceRow {
 
 const TOLERANCES: [ToleranceRow; 10] = [
     // chloride
-    ToleranceRow { number: 13, first: 7_000, last: 15_000, permille: 45 },
+    ToleranceRow {
+        number: 13,
+        first: 7_000,
+        last: 15_000,
+        permille: 45,
+    },
     // digoxin
-    ToleranceRow { number: 19, first: 50, last: 100, permille: 175 },
-    ToleranceRow { number: 19, first: 101, last: 500, permille: 140 },
+    ToleranceRow {
+        number: 19,
+        first: 50,
+        last: 100,
+        permille: 175,
+    },
+    ToleranceRow {
+        number: 19,
+        first: 101,
+        last: 500,
+        permille: 140,
+    },
     // ethanol
-    ToleranceRow { number: 22, first: 20, last: 60, permille: 150 },
-    ToleranceRow { number: 22, first: 61, last: 500, permille: 90 },
+    ToleranceRow {
+        number: 22,
+        first: 20,
+        last: 60,
+        permille: 150,
+    },
+    ToleranceRow {
+        number: 22,
+        first: 61,
+        last: 500,
+        permille: 90,
+    },
     // glucose
-    ToleranceRow { number: 25, first: 4_000, last: 40_000, permille: 110 },
+    ToleranceRow {
+        number: 25,
+        first: 4_000,
+        last: 40_000,
+        permille: 110,
+    },
     // haemoglobin
-    ToleranceRow { number: 27, first: 200, last: 2_000, permille: 40 },
+    ToleranceRow {
+        number: 27,
+        first: 200,
+        last: 2_000,
+        permille: 40,
+    },
     // potassium
-    ToleranceRow { number: 35, first: 200, last: 800, permille: 45 },
+    ToleranceRow {
+        number: 35,
+        first: 200,
+        last: 800,
+        permille: 45,
+    },
     // creatinine
-    ToleranceRow { number: 36, first: 50, last: 1_000, permille: 115 },
+    ToleranceRow {
+        number: 36,
+        first: 50,
+        last: 1_000,
+        permille: 115,
+    },
     // sodium
-    ToleranceRow { number: 43, first: 11_000, last: 18_000, permille: 30 },
+    ToleranceRow {
+        number: 43,
+        first: 11_000,
+        last: 18_000,
+        permille: 30,
+    },
 ];
 
 impl ToleranceRow {

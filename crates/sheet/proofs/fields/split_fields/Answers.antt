@@ -20,7 +20,8 @@ read s t g l u m o e1 e2 e3 e4 e5 e6 = cc
 
 pub returns : need.returns
 unfolding fields
-returns c =
-    (search needs,
-    read (c .args .bytes .now) _ _ _ _ _ _ (c .from-be-bytes .ensures) (c .from-be-bytes-2 .ensures) (c .from-be-bytes-3 .ensures) (c .from-be-bytes-4 .ensures) (c .from-be-bytes-5 .ensures) (c .from-be-bytes-6 .ensures),
-    search (needs, take-rest))
+returns c = (
+  search needs,
+  read (c .args .bytes .now) _ _ _ _ _ _ (c .from-be-bytes .ensures) (c .from-be-bytes-2 .ensures) (c .from-be-bytes-3 .ensures) (c .from-be-bytes-4 .ensures) (c .from-be-bytes-5 .ensures) (c .from-be-bytes-6 .ensures),
+  search (needs, take-rest),
+)

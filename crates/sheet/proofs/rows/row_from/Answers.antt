@@ -9,5 +9,5 @@ use Rattle.sheet.proofs.rows.row_from.Needs as need
 pub cast-result : need.cast-result
 cast-result c =
     let b : c .limit .result ≤ 1000 * nearer-end (c .args .fields .target) (c .args .fields .lower) (c .args .fields .upper) =
-      rw (c .limit .ensures) (limit-bounded (c .args .fields .table) (c .args .fields .target) (c .args .fields .lower) (c .args .fields .upper)) in
+    rw (c .limit .ensures) (limit-bounded (c .args .fields .table) (c .args .fields .target) (c .args .fields .lower) (c .args .fields .upper)) in
     record { fits = omega arith }

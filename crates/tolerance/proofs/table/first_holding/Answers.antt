@@ -9,7 +9,6 @@ use Rattle.tolerance.specs.Table.{first-holding, holds-for, row}
 use Rattle.tolerance.proofs.FirstThat.{first-passed, first-failed, first-ended}
 use Rattle.tolerance.proofs.table.first_holding.Needs as need
 
-
 pub returns-then-holds : need.returns-then-holds
 returns-then-holds c =
     first-passed (λ r. holds-for r (c .args .number) (c .args .target)) Some (λ rs. first-holding rs (c .args .number) (c .args .target)) (λ _ _. refl)
