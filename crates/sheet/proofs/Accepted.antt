@@ -21,13 +21,12 @@ use Rattle.sheet.proofs.Below.{or-else-none, none-below}
 use Rattle.sheet.proofs.FirstOf.{refused-at, all-passed}
 
 -- a sheet of fewer than ten bytes is refused with 1
-pub short-refused : (s : List ℕ) → length s < 10 → Some (1, 0) ≡ refusal-of s
+pub short-refused : (s : List ℕ) → length s < 10 → Some (1, 0) ≡ at-row 0 (whole-refusal s (header-of s))
 unfolding whole-refusal
 short-refused s h =
     let e : true ≡ wrong-length (header-of s) (length s) =
-    sym (or-left (ltb (length s) 10) (ltb 4096 (length s) || not (eqb (header-of s .«sheet_length») (length s))) (lt-ltb (length s) 10 h)) in
-    let w : Some (1, 0) ≡ at-row 0 (whole-refusal s (header-of s)) = refused-at 0 0 (whole-tests s (header-of s)) tt e in
-    rw (← w)
+      sym (or-left (ltb (length s) 10) (ltb 4096 (length s) || not (eqb (header-of s .«sheet_length») (length s))) (lt-ltb (length s) 10 h)) in
+    refused-at 0 0 (whole-tests s (header-of s)) tt e
 
 module _ (s : List ℕ) (h : Header) (n : None ≡ at-row 0 (whole-refusal s h)) where
   pub layout-right : wrong-layout h (length s) ≡ false

@@ -53,10 +53,6 @@ row-of s k = row-from (row-fields s (header-of s) k)
 abbrev pub name-place-of : List ℕ → ℕ → ℕ
 name-place-of s k = name-place (header-of s) (row-fields s (header-of s) k)
 
--- an answer for row k: there is one exactly where there is such a row, and then it is right
-abbrev pub For-row : {X : Type 0} → List ℕ → ℕ → (X → Type 0) → Option X → Type 0
-For-row s k Right r = Cases r (row-count s ≤ k) (λ x. (k < row-count s) × Right x)
-
 abbrev pub Right-fields : List ℕ → ℕ → Header × Fields → Type 0
 Right-fields s k x = (x .0 ≡ header-of s) × (x .1 ≡ row-fields s (header-of s) k)
 
@@ -65,3 +61,8 @@ Right-row s k row = row ≡ row-of s k
 
 abbrev pub Right-name : List ℕ → ℕ → Name → Type 0
 Right-name s k name = (name .place ≡ name-place-of s k) × (now (name .bytes) ≡ name-of s (header-of s) k)
+
+-- the answer of an accepted sheet for row k: there is one exactly where there is such a row, and then it is right
+abbrev pub Hands-out : {X : Type 0} → (List ℕ → ℕ → X → Type 0) → Sheet → ℕ → Option X → Type 0
+Hands-out Right x k r =
+    Accepted x → Cases r (row-count (sheet-bytes x) ≤ k) (λ v. (k < row-count (sheet-bytes x)) × Right (sheet-bytes x) k v)

@@ -1,4 +1,5 @@
 // The package insert of the controls, as bytes: read whole, or refused with a number and a row.
+mod acceptance;
 mod blocks;
 mod checks;
 mod fields;

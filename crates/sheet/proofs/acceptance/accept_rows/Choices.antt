@@ -3,7 +3,7 @@ use mathlib.Core.Path.{_≡_}
 use Rattle.std.specs.declared.option.Option.the-variants.{None}
 use Rattle.sheet.specs.Below.{first-below}
 use Rattle.sheet.specs.Refusals.{refusal-at}
-use Rattle.sheet.proofs.reader.check_rows.Given as given
+use Rattle.sheet.proofs.acceptance.accept_rows.Given as given
 
 abbrev pub Inv-loop-row : given.InvT-loop-row
 Inv-loop-row l = first-below (refusal-at (l .bytes) (l .header)) (l .row) ≡ None

@@ -5,7 +5,7 @@ use Rattle.std.proofs.shelf.Results.{err-from-errBy}
 use Rattle.sheet.specs.Below.{first-below}
 use Rattle.sheet.specs.Refusals.{refusal-at}
 use Rattle.sheet.proofs.Below.{first-more, first-found}
-use Rattle.sheet.proofs.reader.check_rows.Needs as need
+use Rattle.sheet.proofs.acceptance.accept_rows.Needs as need
 
 pub returns-in-Break-check-row : need.returns-in-Break-check-row
 returns-in-Break-check-row c =

@@ -1,6 +1,6 @@
 use Rattle.sheet.specs.Refusals.{row-tests, row-refusal}
 use Rattle.sheet.proofs.FirstOf.{refused-at, passed-all}
-use Rattle.sheet.proofs.reader.check_fields.Needs as need
+use Rattle.sheet.proofs.acceptance.check_fields.Needs as need
 
 pub returns-then-is-unknown-table : need.returns-then-is-unknown-table
 unfolding row-refusal

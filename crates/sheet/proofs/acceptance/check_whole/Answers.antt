@@ -1,6 +1,6 @@
 use Rattle.sheet.specs.Refusals.{whole-tests, whole-refusal}
 use Rattle.sheet.proofs.FirstOf.{refused-at, passed-all}
-use Rattle.sheet.proofs.reader.check_whole.Needs as need
+use Rattle.sheet.proofs.acceptance.check_whole.Needs as need
 
 pub returns-then-is-wrong-length : need.returns-then-is-wrong-length
 unfolding whole-refusal
