@@ -25,7 +25,7 @@ pub short-refused : (s : List ℕ) → length s < 10 → Some (1, 0) ≡ at-row 
 unfolding whole-refusal
 short-refused s h =
     let e : true ≡ wrong-length (header-of s) (length s) =
-      sym (or-left (ltb (length s) 10) (ltb 4096 (length s) || not (eqb (header-of s .«sheet_length») (length s))) (lt-ltb (length s) 10 h)) in
+    sym (or-left (ltb (length s) 10) (ltb 4096 (length s) || not (eqb (header-of s .«sheet_length») (length s))) (lt-ltb (length s) 10 h)) in
     refused-at 0 0 (whole-tests s (header-of s)) tt e
 
 module _ (s : List ℕ) (h : Header) (n : None ≡ at-row 0 (whole-refusal s h)) where

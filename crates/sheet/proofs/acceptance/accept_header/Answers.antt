@@ -10,5 +10,5 @@ returns c =
     let passed = c .in-Continue-check-whole .ensures tt in
     record {
       refusal = search (needs, passed);
-      header = (c .in-Some .ensures tt .1, rows-within (c .args .bytes .now) (c .in-Some .header) passed)
+      header = (c .in-Some .ensures tt .1, rows-within (c .args .bytes .now) (c .in-Some .header) passed);
     }
