@@ -31,7 +31,7 @@ pub struct Draft {
 }
 
 // The number that a word says.
-pub fn next<T: FromStr>(word: Option<&str>) -> Result<T, AnyError>
+pub(crate) fn next<T: FromStr>(word: Option<&str>) -> Result<T, AnyError>
 where
     T::Err: Error,
 {
@@ -56,7 +56,7 @@ impl Line {
 }
 
 impl Draft {
-    pub fn parse(heap: Global, text: &str) -> Result<Draft, AnyError> {
+    pub(crate) fn parse(heap: Global, text: &str) -> Result<Draft, AnyError> {
         let mut parts = text.split('|');
         let mut words = parts.next().unwrap_or("").split_whitespace();
         let mut lines = Vec::new(heap);
@@ -76,7 +76,7 @@ impl Draft {
     }
 
     // The header is written last, over whatever lies there.
-    pub fn bytes(&self, heap: Global) -> Result<Vec<u8>, AllocError> {
+    pub(crate) fn bytes(&self, heap: Global) -> Result<Vec<u8>, AllocError> {
         let mut sheet = vec![in heap; 0u8; usize::from(self.length)]?;
         let mut at = usize::from(self.rows_at);
         for line in self.lines.iter() {

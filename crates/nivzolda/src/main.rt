@@ -57,3 +57,14 @@ fn run(rt: &LibcRuntime) -> Result<(), AnyError> {
 fn main(rt: LibcRuntime) -> Result<(), AnyError> {
     run(&rt)
 }
+
+#[cfg(test)]
+mod tests {
+    use super::*;
+    use std::test::*;
+
+    #[test]
+    fn a_missing_file_is_an_error(rt: LibcRuntime) -> Result<(), Fail> {
+        check(sheet(&rt, "no-such-file").is_err())
+    }
+}
