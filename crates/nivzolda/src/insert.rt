@@ -110,44 +110,12 @@ mod tests {
     use std::test::*;
 
     // The sheet of one potassium row, with its name right after it.
-    const K: [u8; 32] = [
-        0,
-        32,
-        0,
-        1,
-        0,
-        10,
-        0,
-        1,
-        0,
-        31,
-        0,
-        35,
-        0,
-        0,
-        1,
-        144,
-        0,
-        0,
-        1,
-        94,
-        0,
-        0,
-        1,
-        194,
-        0,
-        1,
-        134,
-        160,
-        1,
-        0,
-        0,
-        75,
-    ];
+    const K: &[u8] =
+        b"\x00\x20\x00\x01\x00\x0a\x00\x01\x00\x1f\x00\x23\x00\x00\x01\x90\x00\x00\x01\x5e\x00\x00\x01\xc2\x00\x01\x86\xa0\x01\x00\x00K";
 
     #[test]
     fn one_row_is_printed(rt: LibcRuntime) -> Result<(), Fail> {
-        let text = report(rt.alloc(), &K)?;
+        let text = report(rt.alloc(), K)?;
         check_eq(
             text.as_str(),
             "accepted, 1 rows\nrow 0 K table 35 target 4.00 ends 3.50 4.50 last minute 100000 limit 18000 name at 31\n",

@@ -1,19 +1,18 @@
 -- What is known of a sheet at which nothing is refused, or of which a test says something.
 -- Assumes nothing.
 use Prim.Native.Nat.{ℕ, _+_, _<_, _≤_}
-use mathlib.Core.Path.{_≡_, refl, sym, ap}
-use mathlib.Core.Bool.{Bool, true, false, not, _||_}
+use mathlib.Core.Path.{_≡_, sym}
+use mathlib.Core.Bool.{true, false, not, _||_}
 use mathlib.Core.List.{List}
-use lib.Dec.{ltb, leb, eqb}
+use lib.Dec.{ltb, eqb}
 use lib.ListN.{length}
 use native.Mathlib.Omega.{arith}
 use Rattle.std.proofs.shelf.Tests.{lt-ltb, ltb-false, or-left, or-parts}
-use Rattle.std.specs.declared.option.Option.{Option}
 use Rattle.std.specs.declared.option.Option.the-variants.{Some, None}
 use Rattle.sheet.specs.declared.header.Header.{Header}
 use Rattle.sheet.specs.Header.{header-of}
 use Rattle.sheet.specs.Fields.{row-place, row-fields}
-use Rattle.sheet.specs.Blocks.{rows-block, names-block, misplaced, apart, wrong-layout}
+use Rattle.sheet.specs.Blocks.{rows-block, misplaced, wrong-layout}
 use Rattle.sheet.specs.Checks.{wrong-length, wrong-range}
 use Rattle.sheet.specs.Refusals.{refusal-of, refusal-at, whole-refusal, whole-tests, row-refusal, row-tests, at-row}
 use Rattle.sheet.specs.Rows.{row-count}

@@ -14,11 +14,11 @@ names-block h = record { start = h .«names_offset»; end = h .«names_offset» 
 
 -- it starts below 10 or ends beyond the sheet
 abbrev pub misplaced : Block → ℕ → Bool
-misplaced b length = ltb (b .start) 10 || ltb length (b .end)
+misplaced b size = ltb (b .start) 10 || ltb size (b .end)
 
 -- one of the two ends at or before the other's start
 abbrev pub apart : Block → Block → Bool
 apart a b = leb (a .end) (b .start) || leb (b .end) (a .start)
 
 abbrev pub wrong-layout : Header → ℕ → Bool
-wrong-layout h length = misplaced (rows-block h) length || (misplaced (names-block h) length || not (apart (rows-block h) (names-block h)))
+wrong-layout h size = misplaced (rows-block h) size || (misplaced (names-block h) size || not (apart (rows-block h) (names-block h)))

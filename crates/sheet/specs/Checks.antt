@@ -1,9 +1,9 @@
 -- One test for each thing that can be wrong with a sheet; Blocks has that of the layout.
 -- Assumes nothing.
 use Prim.Native.Nat.{ℕ, _+_}
-use mathlib.Core.Bool.{Bool, not, _&&_, _||_}
+use mathlib.Core.Bool.{Bool, not, _||_}
 use mathlib.Core.List.{List}
-use lib.Dec.{eqb, leb, ltb}
+use lib.Dec.{eqb, ltb}
 use Rattle.tolerance.specs.Table.{listed}
 use Rattle.sheet.specs.declared.header.Header.{Header}
 use Rattle.sheet.specs.declared.fields.Fields.{Fields}
@@ -11,7 +11,7 @@ use Rattle.sheet.specs.Names.{name-bytes, has-other-byte, same-name-before}
 
 -- under 10 or over 4,096 bytes, or not the stated length
 abbrev pub wrong-length : Header → ℕ → Bool
-wrong-length h length = ltb length 10 || (ltb 4096 length || not (eqb (h .«sheet_length») length))
+wrong-length h size = ltb size 10 || (ltb 4096 size || not (eqb (h .«sheet_length») size))
 
 -- no rows, or more than 16
 abbrev pub wrong-row-count : Header → Bool

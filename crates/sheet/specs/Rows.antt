@@ -30,9 +30,16 @@ Accepted x = refusal-of (sheet-bytes x) ≡ None
 abbrev pub row-count : List ℕ → ℕ
 row-count s = header-of s .«row_count»
 
--- the upper end lies above the target and in range: so the limit fits 32 bits
+-- the ends enclose the target, and lie in the range of values
+abbrev pub Enclosed : ℕ → ℕ → ℕ → Type 0
+Enclosed lower target upper = (lower < target) × (target < upper) × (upper ≤ 99999)
+
 abbrev pub In-range : Fields → Type 0
-In-range f = (f .target < f .upper) × (f .upper ≤ 99999)
+In-range f = Enclosed (f .lower) (f .target) (f .upper)
+
+-- the same of a row; so its limit is at most 1,000 times the highest value
+abbrev pub Row-in-range : Row → Type 0
+Row-in-range row = Enclosed (row .lower) (row .target) (row .upper) × (row .limit ≤ 99999000)
 
 -- what the fields say of an assay, and the limit that follows
 abbrev pub row-from : Fields → Row

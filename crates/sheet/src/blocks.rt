@@ -31,10 +31,10 @@ fn names_of(header: Header) -> Block
 }
 
 // Whether the block starts in the header or ends beyond the sheet.
-fn is_misplaced(block: Block, length: usize) -> bool
-    ensures { λ r. ⌜ r ≡ misplaced block length ⌝ }
+fn is_misplaced(block: Block, size: usize) -> bool
+    ensures { λ r. ⌜ r ≡ misplaced block size ⌝ }
 {
-    block.start < 10 || block.end > length
+    block.start < 10 || block.end > size
 }
 
 // Whether one of the two ends at or before the other's start.
@@ -44,10 +44,10 @@ fn are_apart(a: Block, b: Block) -> bool
     a.end <= b.start || b.end <= a.start
 }
 
-pub(crate) fn is_wrong_layout(header: Header, length: usize) -> bool
-    ensures { λ r. ⌜ r ≡ wrong-layout header length ⌝ }
+pub(crate) fn is_wrong_layout(header: Header, size: usize) -> bool
+    ensures { λ r. ⌜ r ≡ wrong-layout header size ⌝ }
 {
     let rows = rows_of(header);
     let names = names_of(header);
-    is_misplaced(rows, length) || is_misplaced(names, length) || !are_apart(rows, names)
+    is_misplaced(rows, size) || is_misplaced(names, size) || !are_apart(rows, names)
 }

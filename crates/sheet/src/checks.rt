@@ -11,10 +11,10 @@ use crate::names::holds_other_byte;
 use crate::names::stands_before;
 use tolerance::is_listed;
 
-pub(crate) fn is_wrong_length(header: Header, length: usize) -> bool
-    ensures { λ r. ⌜ r ≡ wrong-length header length ⌝ }
+pub(crate) fn is_wrong_length(header: Header, size: usize) -> bool
+    ensures { λ r. ⌜ r ≡ wrong-length header size ⌝ }
 {
-    length < 10 || length > 4_096 || usize::from(header.sheet_length) != length
+    size < 10 || size > 4_096 || usize::from(header.sheet_length) != size
 }
 
 pub(crate) fn is_wrong_row_count(header: Header) -> bool

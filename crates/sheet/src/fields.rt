@@ -41,7 +41,7 @@ pub(crate) fn split_fields(bytes: &[u8]) -> Option<(Fields, &[u8])>
         m2,
         m1,
         m0,
-        length,
+        name_length,
         o1,
         o0,
         rest @ ..,
@@ -55,7 +55,7 @@ pub(crate) fn split_fields(bytes: &[u8]) -> Option<(Fields, &[u8])>
         lower: u32::from_be_bytes([*l3, *l2, *l1, *l0]),
         upper: u32::from_be_bytes([*u3, *u2, *u1, *u0]),
         last_minute: u32::from_be_bytes([*m3, *m2, *m1, *m0]),
-        name_length: *length,
+        name_length: *name_length,
         name_offset: u16::from_be_bytes([*o1, *o0]),
     };
     Some((fields, rest))

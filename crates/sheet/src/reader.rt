@@ -3,7 +3,7 @@ ghost use mathlib.Core.Path.{_≡_};
 ghost use Rattle.std.specs.Vec.{made};
 ghost use Rattle.std.specs.Slices.{found};
 ghost use Rattle.sheet.specs.Refusals.{refusal-of, refused-with};
-ghost use Rattle.sheet.specs.Rows.{sheet-bytes, Accepted, row-count, In-range, Hands-out, Right-fields, Right-row, Right-name};
+ghost use Rattle.sheet.specs.Rows.{sheet-bytes, Accepted, row-count, In-range, Row-in-range, Hands-out, Right-fields, Right-row, Right-name};
 use crate::acceptance::accept_header;
 use crate::acceptance::accept_rows;
 use crate::checks::is_wrong_range;
@@ -67,7 +67,8 @@ impl<'a> Sheet<'a> {
 
     // The row of that number, counted from 0.
     pub fn row(&self, row: u32) -> Option<Row>
-        ensures { λ r. ⌜ Hands-out Right-row (now (self .entry)) row r ⌝ }
+        ensures row { λ r. ⌜ Hands-out Right-row (now (self .entry)) row r ⌝ }
+        ensures range { λ r. ⌜ found r Row-in-range ⌝ }
     {
         let (_, fields) = self.find(row)?;
         Some(row_from(fields))

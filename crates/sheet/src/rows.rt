@@ -1,6 +1,8 @@
 // What a sheet hands out: a row with its limit, and a name with its place.
 ghost use mathlib.Core.Path.{_≡_};
-ghost use Rattle.sheet.specs.Rows.{In-range, row-from};
+ghost use Prim.Native.Nat.{_≤_};
+ghost use Rattle.tolerance.specs.Limits.{limit-of};
+ghost use Rattle.sheet.specs.Rows.{In-range, Row-in-range, row-from};
 use crate::fields::Fields;
 use tolerance::limit;
 
@@ -23,10 +25,20 @@ pub struct Name<'a> {
     pub bytes: &'a [u8],
 }
 
+// The limit of an assay whose ends enclose the target and lie in range: it fits 32 bits.
+fn limit_from(fields: Fields) -> u32
+    requires { ⌜ In-range fields ⌝ }
+    ensures value { λ r. ⌜ r ≡ limit-of (fields .table) (fields .target) (fields .lower) (fields .upper) ⌝ }
+    ensures bound { λ r. ⌜ r ≤ 99999000 ⌝ }
+{
+    limit(fields.table, fields.target, fields.lower, fields.upper) as u32
+}
+
 // The row that the fields make.
 pub(crate) fn row_from(fields: Fields) -> Row
     requires { ⌜ In-range fields ⌝ }
-    ensures { λ r. ⌜ r ≡ row-from fields ⌝ }
+    ensures row { λ r. ⌜ r ≡ row-from fields ⌝ }
+    ensures range { λ r. ⌜ Row-in-range r ⌝ }
 {
     Row {
         table: fields.table,
@@ -34,6 +46,6 @@ pub(crate) fn row_from(fields: Fields) -> Row
         lower: fields.lower,
         upper: fields.upper,
         last_minute: fields.last_minute,
-        limit: limit(fields.table, fields.target, fields.lower, fields.upper) as u32,
+        limit: limit_from(fields),
     }
 }

@@ -6,7 +6,7 @@ use Rattle.std.specs.declared.option.Option.{Option}
 use Rattle.std.specs.declared.option.Option.the-variants.{Some, None}
 use Rattle.tolerance.specs.declared.table.ToleranceRow.{ToleranceRow}
 use Rattle.tolerance.specs.Table.{tolerance-for}
-use Rattle.tolerance.specs.Limits.{distance, nearer-end, smaller-of, limit-of}
+use Rattle.tolerance.specs.Limits.{nearer-end, smaller-of, limit-of}
 
 smaller-bounded : (o : Option ToleranceRow) (target by-range : ℕ) → smaller-of o target by-range ≤ by-range
 smaller-bounded None t r = omega arith

@@ -1,7 +1,6 @@
 use mathlib.Core.Path.{refl}
 use mathlib.Core.Bool.{true}
 use lib.Dec.{eqb}
-use lib.ListN.{getD}
 use Rattle.std.proofs.shelf.Tests.{eq-eqb, ne-eqb}
 use Rattle.tolerance.specs.Table.{any-numbered, row}
 use Rattle.tolerance.proofs.FirstThat.{first-passed, first-failed, first-ended}

@@ -1,10 +1,5 @@
-use Prim.Native.Nat.{ℕ}
-use mathlib.Core.Path.{_≡_, refl, sym, _∙_}
-use mathlib.Core.Bool.{Bool, cond}
-use mathlib.Core.List.{List}
-use Rattle.std.specs.declared.option.Option.{Option}
+use mathlib.Core.Path.{refl, sym}
 use Rattle.std.specs.declared.option.Option.the-variants.{Some}
-use Rattle.tolerance.specs.declared.table.ToleranceRow.{ToleranceRow}
 use Rattle.tolerance.specs.Table.{first-holding, holds-for, row}
 use Rattle.tolerance.proofs.FirstThat.{first-passed, first-failed, first-ended}
 use Rattle.tolerance.proofs.table.first_holding.Needs as need

@@ -1,10 +1,9 @@
 -- In an accepted sheet, the header is there, each row lies within the sheet, and its range is right.
 use Prim.Native.Nat.{_<_}
-use mathlib.Core.Path.{_≡_, sym, ap, _∙_}
+use mathlib.Core.Path.{sym, ap, _∙_}
 use native.Mathlib.Omega.{arith}
 use Rattle.std.proofs.shelf.Tests.{both-ways}
 use Rattle.sheet.specs.declared.header.Header.{Header}
-use Rattle.sheet.specs.declared.fields.Fields.{Fields}
 use Rattle.sheet.specs.Fields.{row-fields}
 use Rattle.sheet.specs.Checks.{wrong-range}
 use Rattle.sheet.specs.Rows.{row-count}
