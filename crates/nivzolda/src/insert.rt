@@ -3,7 +3,7 @@ ghost use mathlib.Core.Path.{_≡_};
 ghost use Rattle.std.specs.Of.String.{string-bytes};
 ghost use Rattle.std.specs.Vec.{made};
 ghost use Rattle.sheet.specs.Refusals.{told};
-ghost use Rattle.sheet.specs.Rows.{Accepted};
+ghost use Rattle.sheet.specs.Reader.{Accepted};
 ghost use Rattle.nivzolda.specs.Lines.{refused-line, row-start, row-end, row-line};
 use crate::decimal::Hundredths;
 use crate::decimal::HundredthsDisplay;

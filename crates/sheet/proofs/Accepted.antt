@@ -14,8 +14,8 @@ use Rattle.sheet.specs.Header.{header-of}
 use Rattle.sheet.specs.Fields.{row-place, row-fields}
 use Rattle.sheet.specs.Blocks.{rows-block, misplaced, wrong-layout}
 use Rattle.sheet.specs.Checks.{wrong-length, wrong-range}
-use Rattle.sheet.specs.Refusals.{refusal-of, refusal-at, whole-refusal, whole-tests, row-refusal, row-tests, at-row}
-use Rattle.sheet.specs.Rows.{row-count}
+use Rattle.sheet.specs.Acceptance.{refusal-of, refusal-at, whole-refusal, whole-tests, row-refusal, row-tests, at-row}
+use Rattle.sheet.specs.Reader.{row-count}
 use Rattle.sheet.proofs.Below.{or-else-none, none-below}
 use Rattle.sheet.proofs.FirstOf.{refused-at, all-passed}
 

@@ -8,7 +8,7 @@ use lib.ListN.{getD, take}
 use native.Mathlib.Omega.{arith}
 use Rattle.std.specs.shelf.Lists.{All}
 use Rattle.std.specs.declared.option.Option.the-variants.{Some, None}
-use Rattle.sheet.specs.Refusals.{first-of, at-row}
+use Rattle.sheet.specs.Acceptance.{first-of, at-row}
 
 abbrev pub Fails : Bool × ℕ → Type 0
 Fails t = false ≡ t .0

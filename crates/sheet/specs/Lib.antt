@@ -6,4 +6,6 @@ pub mod Names
 pub mod Blocks
 pub mod Checks
 pub mod Refusals
+pub mod Acceptance
 pub mod Rows
+pub mod Reader

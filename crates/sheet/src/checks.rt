@@ -1,6 +1,6 @@
 // One test for each thing that can be wrong with a sheet; `blocks` has that of the layout.
 ghost use mathlib.Core.Path.{_≡_};
-ghost use Prim.Native.Nat.{_+_, _≤_};
+ghost use Prim.Native.Nat.{_≤_};
 ghost use lib.ListN.{length};
 ghost use Rattle.sheet.specs.Checks.{wrong-length, wrong-row-count, unknown-table, wrong-range, wrong-name, repeated-name};
 ghost use Rattle.sheet.specs.Fields.{row-place};

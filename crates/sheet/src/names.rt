@@ -1,6 +1,6 @@
 // The names of the assays: parts of the name block.
 ghost use mathlib.Core.Path.{_≡_};
-ghost use Prim.Native.Nat.{_+_, _≤_};
+ghost use Prim.Native.Nat.{_≤_};
 ghost use lib.ListN.{length, take, drop};
 ghost use Rattle.std.specs.shelf.Text.{sameBytes};
 ghost use Rattle.sheet.specs.Fields.{row-place};

@@ -2,8 +2,10 @@
 ghost use mathlib.Core.Path.{_≡_};
 ghost use Rattle.std.specs.Vec.{made};
 ghost use Rattle.std.specs.Slices.{found};
-ghost use Rattle.sheet.specs.Refusals.{refusal-of, refused-with};
-ghost use Rattle.sheet.specs.Rows.{sheet-bytes, Accepted, row-count, In-range, Row-in-range, Hands-out, Right-fields, Right-row, Right-name};
+ghost use Rattle.sheet.specs.Acceptance.{refusal-of};
+ghost use Rattle.sheet.specs.Refusals.{refused-with};
+ghost use Rattle.sheet.specs.Reader.{sheet-bytes, Accepted, row-count, Hands-out, Right-fields, Right-row, Right-name};
+ghost use Rattle.sheet.specs.Rows.{In-range, Row-in-range};
 use crate::acceptance::accept_header;
 use crate::acceptance::accept_rows;
 use crate::checks::is_wrong_range;

@@ -4,7 +4,8 @@ use native.Mathlib.Omega.{arith}
 use Rattle.std.specs.declared.option.Option.the-variants.{Some}
 use Rattle.std.proofs.shelf.Results.{err-from-errBy}
 use Rattle.sheet.specs.Below.{first-below}
-use Rattle.sheet.specs.Refusals.{told, refusal-at}
+use Rattle.sheet.specs.Refusals.{told}
+use Rattle.sheet.specs.Acceptance.{refusal-at}
 use Rattle.sheet.proofs.Below.{first-more, first-found}
 use Rattle.sheet.proofs.acceptance.accept_rows.Needs as need
 

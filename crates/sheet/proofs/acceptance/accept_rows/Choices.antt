@@ -2,7 +2,7 @@
 use mathlib.Core.Path.{_≡_}
 use Rattle.std.specs.declared.option.Option.the-variants.{None}
 use Rattle.sheet.specs.Below.{first-below}
-use Rattle.sheet.specs.Refusals.{refusal-at}
+use Rattle.sheet.specs.Acceptance.{refusal-at}
 use Rattle.sheet.proofs.acceptance.accept_rows.Given as given
 
 abbrev pub Inv-loop-row : given.InvT-loop-row

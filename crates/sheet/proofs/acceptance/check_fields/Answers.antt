@@ -1,4 +1,4 @@
-use Rattle.sheet.specs.Refusals.{row-tests, row-refusal}
+use Rattle.sheet.specs.Acceptance.{row-tests, row-refusal}
 use Rattle.sheet.proofs.FirstOf.{refused-at, passed-all}
 use Rattle.sheet.proofs.acceptance.check_fields.Needs as need
 

@@ -1,4 +1,4 @@
-use Rattle.sheet.specs.Refusals.{whole-tests, whole-refusal}
+use Rattle.sheet.specs.Acceptance.{whole-tests, whole-refusal}
 use Rattle.sheet.proofs.FirstOf.{refused-at, passed-all}
 use Rattle.sheet.proofs.acceptance.check_whole.Needs as need
 

@@ -1,6 +1,5 @@
-use mathlib.Core.Path.{sym}
 use mathlib.Core.Bool.{true, false}
-use mathlib.Core.Path.{_≡_}
+use mathlib.Core.Path.{_≡_, sym}
 use Rattle.std.specs.shelf.Text.{sameBytes}
 use Rattle.sheet.specs.Names.{name-of}
 use Rattle.sheet.proofs.Below.{some-found, some-more}

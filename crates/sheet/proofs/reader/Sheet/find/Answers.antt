@@ -6,7 +6,7 @@ use Rattle.std.proofs.shelf.Tests.{both-ways}
 use Rattle.sheet.specs.declared.header.Header.{Header}
 use Rattle.sheet.specs.Fields.{row-fields}
 use Rattle.sheet.specs.Checks.{wrong-range}
-use Rattle.sheet.specs.Rows.{row-count}
+use Rattle.sheet.specs.Reader.{row-count}
 use Rattle.sheet.proofs.Accepted.{long-enough, row-within, range-right}
 use Rattle.sheet.proofs.reader.Sheet.find.Needs as need
 
