@@ -2,9 +2,11 @@
 -- Targets are in hundredths of the analyte's unit; the permille is of the target, for a single value.
 -- Assumes nothing.
 use Prim.Native.Nat.{ℕ}
-use mathlib.Core.Bool.{Bool, true, false, cond, _&&_}
+use mathlib.Core.Bool.{Bool, true, false, cond, not, _&&_, _||_}
 use mathlib.Core.List.{List, [], _∷_}
-use lib.Dec.{eqb, leb}
+use lib.Dec.{eqb, leb, ltb}
+use mathlib.Core.Path.{_≡_}
+use Rattle.std.specs.shelf.Lists.{All}
 use Rattle.std.specs.declared.option.Option.{Option}
 use Rattle.std.specs.declared.option.Option.the-variants.{Some, None}
 use Rattle.tolerance.specs.declared.table.ToleranceRow.{ToleranceRow}
@@ -43,6 +45,22 @@ any-numbered (r ∷ rs) n = cond (eqb (r .number) n) true (any-numbered rs n)
 -- the row of the table that holds for a number and a target, if there is one
 abbrev pub tolerance-for : ℕ → ℕ → Option ToleranceRow
 tolerance-for n t = first-holding tolerances n t
+
+-- two rows are for different numbers, or the range of one ends before the other's begins
+abbrev pub apart : ToleranceRow → ToleranceRow → Bool
+apart r q = not (eqb (r .number) (q .number)) || (ltb (r .last) (q .first) || ltb (q .last) (r .first))
+
+abbrev pub apart-from-all : ToleranceRow → List ToleranceRow → Bool
+apart-from-all r [] = true
+apart-from-all r (q ∷ qs) = apart r q && apart-from-all r qs
+
+abbrev pub all-apart : List ToleranceRow → Bool
+all-apart [] = true
+all-apart (r ∷ rs) = apart-from-all r rs && all-apart rs
+
+-- no other row could be meant: each one that holds for the number and the target is the answer
+abbrev pub Only-row : List ToleranceRow → ℕ → ℕ → Option ToleranceRow → Type 0
+Only-row rows n t r = All (λ row. holds-for row n t ≡ true → r ≡ Some row) rows
 
 -- the table has a row of that number
 abbrev pub listed : ℕ → Bool

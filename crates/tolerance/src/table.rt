@@ -1,6 +1,7 @@
 // The table of tolerances: how far a single value may lie from its target, by analyte and target range.
 ghost use mathlib.Core.Path.{_≡_};
-ghost use Rattle.tolerance.specs.Table.{holds-for, first-holding, any-numbered, tolerance-for, listed};
+ghost use mathlib.Core.Bool.{true};
+ghost use Rattle.tolerance.specs.Table.{holds-for, first-holding, any-numbered, tolerances, tolerance-for, all-apart, Only-row, listed};
 
 // One target range of one analyte. Targets are in hundredths of the analyte's unit.
 #[derive(Clone, Copy)]
@@ -93,7 +94,8 @@ impl ToleranceRow {
 }
 
 fn first_holding(rows: &[ToleranceRow], number: u16, target: u32) -> Option<ToleranceRow>
-    ensures { λ r. ⌜ r ≡ first-holding (now (rows .entry)) number target ⌝ }
+    ensures row { λ r. ⌜ r ≡ first-holding (now (rows .entry)) number target ⌝ }
+    ensures only { λ r. ⌜ (all-apart (now (rows .entry)) ≡ true → Only-row (now (rows .entry)) number target r) ⌝ }
 {
     for row in rows {
         if row.holds(number, target) {
@@ -116,7 +118,8 @@ fn any_numbered(rows: &[ToleranceRow], number: u16) -> bool
 
 // The row of the table for that number whose range holds the target, if there is one.
 pub fn lookup(number: u16, target: u32) -> Option<ToleranceRow>
-    ensures { λ r. ⌜ r ≡ tolerance-for number target ⌝ }
+    ensures row { λ r. ⌜ r ≡ tolerance-for number target ⌝ }
+    ensures only { λ r. ⌜ Only-row tolerances number target r ⌝ }
 {
     first_holding(&TOLERANCES, number, target)
 }
