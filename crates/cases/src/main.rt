@@ -6,6 +6,8 @@
 //     sheet LENGTH STATED ROWS ROWS_AT NAMES_LENGTH NAMES_AT NAMES | ROW | ROW ..
 //
 // A sheet is written out field by field, right or wrong, with its name block as text; `draft` has the rows' fields.
+#![tactic(auto)]
+
 mod draft;
 
 use anyhow::anyhow;

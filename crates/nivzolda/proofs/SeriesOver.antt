@@ -1,10 +1,8 @@
 -- One value more in a series, and verdicts written over as many places.
 -- Assumes nothing.
-use Rattle.std.proofs.Common.{◌≡◌, ℕ, suc, ◌+◌, ◌<◌, List, [], ◌∷◌, ◌++◌, map, reverse, length, get_or, take, ℤ, sym, refl, ap, ◌∙◌, arith}
-use mathlib.Core.List.{reverse-cons}
+use Rattle.std.proofs.Common.{◌≡◌, ℕ, suc, ◌+◌, ◌<◌, List, [], ◌∷◌, ◌++◌, map, length, get_or, take, ℤ, sym, refl, ap, ◌∙◌, arith}
 use Rattle.std.proofs.lemmas.List.{take_more, take_at, map_push, reverse-append}
 use Rattle.tolerance.specs.Deviations.{deviation_of}
-use Rattle.rulebook.specs.declared.verdict.Verdict.{Verdict}
 use Rattle.rulebook.specs.Meanings.{Meaning}
 use Rattle.rulebook.specs.Series.{series, over, deviations_of}
 

@@ -1,4 +1,6 @@
 // The program: reads files, prints lines. What matters is in the libraries.
+#![tactic(auto)]
+
 mod arguments;
 mod assays;
 mod control_series;

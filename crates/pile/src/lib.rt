@@ -1,4 +1,6 @@
 // A pile of rules chosen at run time: a guideline and layers on top, read from a text.
+#![tactic(auto)]
+
 mod choice;
 mod guideline;
 mod pile;

@@ -3,6 +3,8 @@
 //     verdict RULES UNIT DEVIATION..   (newest first)
 //     rules TEXT
 //     value TEXT
+#![tactic(auto)]
+
 use anyhow::anyhow;
 use pile::{Reason, RulesError, read_rules};
 use rulebook::{Rulebook, Verdict};

@@ -1,6 +1,6 @@
 -- A layer on a lawful meaning is lawful.
 -- Assumes nothing.
-use Rattle.std.specs.Prelude.{◌≡◌, ℕ, ◌<◌, ◌≤◌, Bool, false, ◌&&◌, List, [], length, take, ℤ, nat_le, refl}
+use Rattle.std.specs.Prelude.{◌≡◌, ℕ, ◌≤◌, Bool, false, List, [], length, take, ℤ, nat_le, refl}
 use Rattle.std.proofs.Common.{ap, ◌∙◌, arith}
 use Rattle.std.proofs.lemmas.List.{take-take, length-take}
 use Rattle.std.proofs.lemmas.Bool.{cond_both, lt-leb}
@@ -37,8 +37,8 @@ module _ (condition : List ℤ → Bool) (k : ℕ) (level : Verdict) where
   pub layered_lawful : (m : Meaning) → Lawful m → Lawful (layered condition k level m)
   layered_lawful m l =
       record {
-        newest_twelve = λ unit window u w. rw (within_twelve window, l.newest-twelve unit window u w);
-        empty_fit = λ unit u. rw not_in_empty (l.empty-fit unit u);
-        zero_unit = λ window w. ap (raised condition k level window) (l.zero-unit window w);
-        outside_alarm = λ unit window u w o. ap (raised condition k level window) (l.outside-alarm unit window u w o) ∙ alarm_stays window;
+        newest_twelve = λ unit window u w. rw (within_twelve window, l.newest_twelve unit window u w);
+        empty_fit = λ unit u. rw not_in_empty (l.empty_fit unit u);
+        zero_unit = λ window w. ap (raised condition k level window) (l.zero_unit window w);
+        outside_alarm = λ unit window u w o. ap (raised condition k level window) (l.outside_alarm unit window u w o) ∙ alarm_stays window;
       }

@@ -1,4 +1,6 @@
 // Rulebooks: what a series of controls says of an assay. Fit, warning or alarm.
+#![tactic(auto)]
+
 mod conditions;
 mod german;
 mod house_rule;

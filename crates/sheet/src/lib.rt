@@ -1,4 +1,6 @@
 // The package insert of the controls, as bytes: read whole, or refused with a number and a row.
+#![tactic(auto)]
+
 mod acceptance;
 mod blocks;
 mod checks;

@@ -1,4 +1,6 @@
 // Texts that a person types, taken apart exactly: parts between separators, numbers, values with two decimals.
+#![tactic(auto)]
+
 mod numbers;
 mod parts;
 

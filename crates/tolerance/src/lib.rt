@@ -1,4 +1,6 @@
 // How far a control value may lie from its target: the table of tolerances, the limit, the deviation.
+#![tactic(auto)]
+
 mod deviations;
 mod examples;
 mod limits;

@@ -1,4 +1,4 @@
-use Rattle.std.proofs.Common.{◌≡◌, ℕ, ◌-◌, ◌<◌, List, [], ◌∷◌, length, get_or, take, drop, sym, refl, ap, ◌∙◌, arith, rules}
+use Rattle.std.proofs.Common.{◌≡◌, ℕ, ◌-◌, ◌<◌, List, [], ◌∷◌, length, get_or, take, drop, sym, ap, ◌∙◌, arith, rules}
 use Rattle.std.proofs.lemmas.List.{take_rest}
 use Rattle.std.proofs.lemmas.Bool.{eq-eqb, cond-true}
 use Rattle.sheet.specs.Reader.{sheet_bytes}
@@ -13,6 +13,6 @@ behind_sign s (b ∷ bs) h e = ap (row_numbered s) (take_rest (b ∷ bs) 1) ∙ 
 pub returns-in-64 : goal.returns-in-64
 returns-in-64 c =
     record {
-      row = c.row-numbered.ensures.row ∙ behind_sign (sheet_bytes c.args.sheet.now) c.args.assay.now (search rules) (search rules);
-      there = c.row-numbered.ensures.there;
+      row = c.row_numbered.ensures.row ∙ behind_sign (sheet_bytes c.args.sheet.now) c.args.assay.now (search rules) (search rules);
+      there = c.row_numbered.ensures.there;
     }

@@ -1,4 +1,4 @@
-use Rattle.std.proofs.Common.{◌≡◌, ℕ, ◌+◌, ◌<◌, ◌≤◌, true, false, List, Some, None, sym, ap, ◌∙◌, arith}
+use Rattle.std.proofs.Common.{◌≡◌, ℕ, ◌+◌, ◌<◌, true, false, List, Some, None, sym, arith}
 use Rattle.std.specs.Str.{bytes_eq}
 use Rattle.sheet.specs.Below.{first_below}
 use Rattle.sheet.specs.Header.{header_of}
@@ -18,18 +18,18 @@ module _ (s name : List ℕ) (k : ℕ) (before : first_below (if_named s name) k
   named_nowhere : k ≡ row_count s → None ≡ row_named s name
   named_nowhere e = sym (rw e at before)
 
-pub returns-then-is-named : goal.returns-then-is-named
-returns-then-is-named c =
-    let end = c.row-count-row-end.ensures c.requires in
+pub returns-then-is_named : goal.returns-then-is_named
+returns-then-is_named c =
+    let end = c.row_count-row-end.ensures c.requires in
     record {
-      row = named_here (sheet_bytes c.args.sheet.now) c.args.name.now c.loop-row.row c.loop-row.invariant (omega arith) c.if-is-named.ensures;
+      row = named_here (sheet_bytes c.args.sheet.now) c.args.name.now c.loop-row.row c.loop-row.invariant (omega arith) c.if-is_named.ensures;
       there = omega arith;
     }
 
 pub loop-row-preserved : goal.loop-row-preserved
-loop-row-preserved c = named_not_here (sheet_bytes c.args.sheet.now) c.args.name.now c.loop-row.row c.loop-row.invariant c.if-is-named.ensures
+loop-row-preserved c = named_not_here (sheet_bytes c.args.sheet.now) c.args.name.now c.loop-row.row c.loop-row.invariant c.if-is_named.ensures
 
 pub returns : goal.returns
 returns c =
-    let end = c.row-count-row-end.ensures c.requires in
+    let end = c.row_count-row-end.ensures c.requires in
     record { row = named_nowhere (sheet_bytes c.args.sheet.now) c.args.name.now c.loop-row.row c.loop-row.invariant (omega arith); there = tt }

@@ -1,6 +1,5 @@
-use Rattle.std.proofs.Common.{◌≡◌, ◌++◌, get_or, string_bytes, ap, ◌∙◌, arith, rules}
-use Rattle.rulebook.specs.declared.verdict.Verdict.TheVariants.{Fit}
-use Rattle.nivzolda.specs.Lines.{judged_line, judged_lines}
+use Rattle.std.proofs.Common.{◌++◌, string_bytes, ap, ◌∙◌, rules}
+use Rattle.nivzolda.specs.Lines.{judged_lines}
 use Rattle.nivzolda.proofs.JudgedSteps.{line_more, lines_end}
 use Rattle.nivzolda.proofs.judged.judged_lines.Goals as goal
 
@@ -9,11 +8,11 @@ loop-place-init c = ap (λ t. t ++ judged_lines c.args.values.now c.args.verdict
 
 pub loop-place-preserved : goal.loop-place-preserved
 loop-place-preserved c =
-    let line = c.in-ok-judged-line.ensures in
-    let bytes = c.in-ok-push-str.ensures.bytes in
+    let line = c.in_ok-judged_line.ensures in
+    let bytes = c.in_ok-push_str.ensures.bytes in
     line_more c.args.values.now c.args.verdicts.now c.loop-place.place (string_bytes c.loop-place.text) (judged_lines c.args.values.now c.args.verdicts.now)
-    c.loop-place.invariant (string_bytes c.push-str.new.self) (search rules) (search rules)
-    (bytes ∙ ap (λ t. string_bytes c.loop-place.text ++ t) (c.as-str.ensures.value ∙ line))
+    c.loop-place.invariant (string_bytes c.push_str.new.self) (search rules) (search rules)
+    (bytes ∙ ap (λ t. string_bytes c.loop-place.text ++ t) (c.as_str.ensures.value ∙ line))
 
 pub returns : goal.returns
 returns c =

@@ -10,8 +10,8 @@ fourth_field : (part name rest n level third more : List ℕ) → parts 58 part 
     → parts 58 level ≡ (third ∷ parts 58 more) → Err WrongFields ≡ layer_in part
 fourth_field part name rest n level third more p q r = rw (p, q, r, first_part 58 more)
 
-pub returns-in-Some-split-once-2 : goal.returns-in-Some-split-once-2
-returns-in-Some-split-once-2 c =
-    fourth_field c.args.part.now c.in-Some.name.now c.in-Some.rest.now c.in-Some-split-once.k.now c.in-Some-split-once.level.now
-    c.in-Some-split-once-2.field-0.0.now c.in-Some-split-once-2.field-0.1.now c.in-Some.ensures c.in-Some-split-once.ensures
-    c.in-Some-split-once-2.ensures
+pub returns-in-Some-split_once-2 : goal.returns-in-Some-split_once-2
+returns-in-Some-split_once-2 c =
+    fourth_field c.args.part.now c.in-Some.name.now c.in-Some.rest.now c.in-Some-split_once.k.now c.in-Some-split_once.level.now
+    c.in-Some-split_once-2.field-0.0.now c.in-Some-split_once-2.field-0.1.now c.in-Some.ensures c.in-Some-split_once.ensures
+    c.in-Some-split_once-2.ensures

@@ -10,6 +10,6 @@ pub returns : goal.returns
 returns g c =
     record {
       answer = c.judge.ensures.answer ∙ ap (g.B.Rulebook.meaning c.args.rulebook.now c.args.unit) (held 12 c.min-count.result c.args.window.now c.min-count.ensures)
-          ∙ sym ((g.met.B.Rulebook.lawful c.args.rulebook.now).newest-twelve c.args.unit c.args.window.now (search rules) c.requires);
+          ∙ sym ((g.met.B.Rulebook.lawful c.args.rulebook.now).newest_twelve c.args.unit c.args.window.now (search rules) c.requires);
       same = c.judge.ensures.same;
     }

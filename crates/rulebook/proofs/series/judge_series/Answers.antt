@@ -11,20 +11,20 @@ loop-place-init g c = (
   judged_none (g.B.Rulebook.meaning c.args.rulebook.now) c.args.unit c.min-count.result c.args.deviations.now c.args.verdicts.now c.min-count.ensures,
 )
 
-pub judge-newest-requires : goal.judge-newest-requires
-judge-newest-requires g c =
+pub judge_newest-requires : goal.judge_newest-requires
+judge_newest-requires g c =
     rw (take_rest c.args.deviations.now (c.loop-place.place - 1))
-    (All-drop (SFits w32) (c.loop-place.place - 1) c.args.deviations.now c.read-window.ensures)
+    (All-drop (SFits w32) (c.loop-place.place - 1) c.args.deviations.now c.read_window.ensures)
 
 pub loop-place-preserved : goal.loop-place-preserved
 loop-place-preserved g c =
     let rest = take_rest c.args.deviations.now (c.loop-place.place - 1) in
     let window : Window32 (drop (c.loop-place.place - 1) c.args.deviations.now) =
-    All-drop (SFits w32) (c.loop-place.place - 1) c.args.deviations.now c.read-window.ensures in
-    let answer = rw rest at c.judge-newest.ensures.answer in (
-      λ unit w u h. c.loop-place.invariant.0 unit w u h ∙ c.judge-newest.ensures.same unit w u h,
+    All-drop (SFits w32) (c.loop-place.place - 1) c.args.deviations.now c.read_window.ensures in
+    let answer = rw rest at c.judge_newest.ensures.answer in (
+      λ unit w u h. c.loop-place.invariant.0 unit w u h ∙ c.judge_newest.ensures.same unit w u h,
       judged_turn (g.B.Rulebook.meaning c.args.rulebook.now) c.args.unit c.loop-place.place c.args.deviations.now c.args.verdicts.now
-          c.loop-place.verdicts c.judge-newest.result c.loop-place-test.true (search rules) c.loop-place.invariant.1
+          c.loop-place.verdicts c.judge_newest.result c.loop-place-test.true (search rules) c.loop-place.invariant.1
           (answer ∙ sym (c.loop-place.invariant.0 c.args.unit (drop (c.loop-place.place - 1) c.args.deviations.now) (search rules) window)),
     )
 

@@ -2,12 +2,12 @@ use Rattle.std.proofs.Common.{rules}
 use Rattle.sheet.proofs.Accepted.{short_refused, rows_within}
 use Rattle.sheet.proofs.acceptance.accept_header.Goals as goal
 
-pub returns-in-default : goal.returns-in-default
-returns-in-default c = record { refusal = short_refused c.args.bytes.now c.in-default.ensures; header = tt }
+pub returns-in_default : goal.returns-in_default
+returns-in_default c = record { refusal = short_refused c.args.bytes.now c.in_default.ensures; header = tt }
 
 pub returns : goal.returns
 returns c =
-    let passed = c.in-ok-check-whole.ensures in
+    let passed = c.in_ok-check_whole.ensures in
     record {
       refusal = search (rules, passed);
       header = (c.in-Some.ensures.1, rows_within c.args.bytes.now c.in-Some.header passed);

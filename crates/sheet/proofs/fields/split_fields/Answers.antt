@@ -18,6 +18,6 @@ pub returns : goal.returns
 unfolding fields
 returns c = (
   search rules,
-  read c.args.bytes.now _ _ _ _ _ _ c.from-be-bytes.ensures c.from-be-bytes-2.ensures c.from-be-bytes-3.ensures c.from-be-bytes-4.ensures c.from-be-bytes-5.ensures c.from-be-bytes-6.ensures,
+  read c.args.bytes.now _ _ _ _ _ _ c.from_be_bytes.ensures c.from_be_bytes-2.ensures c.from_be_bytes-3.ensures c.from_be_bytes-4.ensures c.from_be_bytes-5.ensures c.from_be_bytes-6.ensures,
   search (rules, take_rest),
 )

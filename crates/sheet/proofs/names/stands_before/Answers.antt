@@ -4,8 +4,8 @@ use Rattle.sheet.specs.Names.{name_of}
 use Rattle.sheet.proofs.Below.{some_found, some_more}
 use Rattle.sheet.proofs.names.stands_before.Goals as goal
 
-pub returns-then-is-same : goal.returns-then-is-same
-returns-then-is-same c =
+pub returns-then-is_same : goal.returns-then-is_same
+returns-then-is_same c =
     let t : bytes_eq (name_of c.args.bytes.now c.args.header c.loop-earlier.earlier) c.args.name.now ≡ true = cc in
     sym (some_found (λ k. bytes_eq (name_of c.args.bytes.now c.args.header k) c.args.name.now) c.loop-earlier.earlier c.args.row c.loop-earlier-test.true t)
 

@@ -7,8 +7,8 @@ bounded c =
     rw c.limit.ensures
     (omega (arith, limit_bounded c.args.fields.table c.args.fields.target c.args.fields.lower c.args.fields.upper))
 
-pub overflow-cast-result : goal.overflow-cast-result
-overflow-cast-result c = record { fits = omega (arith, bounded c) }
+pub overflow_cast-result : goal.overflow_cast-result
+overflow_cast-result c = record { fits = omega (arith, bounded c) }
 
 pub returns : goal.returns
 returns c = record { value = c.limit.ensures; bound = bounded c }

@@ -1,4 +1,4 @@
-use Rattle.std.proofs.Common.{◌≡◌, ℕ, ◌+◌, ◌-◌, false, cond, eqb, List, [], ◌∷◌, length, take, drop, Some, None, Option, sym, ap, ◌∙◌, arith, rules}
+use Rattle.std.proofs.Common.{◌≡◌, ℕ, ◌+◌, ◌-◌, cond, eqb, List, [], ◌∷◌, length, take, drop, Some, None, Option, sym, ap, ◌∙◌, arith, rules}
 use Rattle.std.proofs.lemmas.List.{take_rest}
 use Rattle.std.proofs.lemmas.Bool.{ne_eqb, cond-false}
 use Rattle.text.specs.Parts.{part_end}
@@ -15,12 +15,12 @@ module _ (text : List ℕ) (point : ℕ) (place : point ≡ part_end 46 text 0) 
       let z : point - 0 ≡ point = omega arith in
       ap (λ t. and_then t rest) (rw z at whole) ∙ ap (λ q. hundredths_at q text) place
 
-pub returns-in-err-whole : goal.returns-in-err-whole
-returns-in-err-whole c =
-    c.from-residual.ensures ∙ by_whole c.args.text.now c.end-of-part-point.result c.end-of-part-point.ensures.value None c.in-err-whole.ensures
+pub returns-in_err-whole : goal.returns-in_err-whole
+returns-in_err-whole c =
+    c.from_residual.ensures ∙ by_whole c.args.text.now c.end_of_part-point.result c.end_of_part-point.ensures.value None c.in_err-whole.ensures
 
 pub returns : goal.returns
 returns c =
-    let e = rw (take_rest c.args.text.now (c.end-of-part-point.result + 1)) at c.with-decimals.ensures in
-    e ∙ sym (cond-false _ _ _ (ne_eqb c.end-of-part-point.result (length c.args.text.now) (search rules)))
-    ∙ by_whole c.args.text.now c.end-of-part-point.result c.end-of-part-point.ensures.value (Some c.in-ok-whole.whole) c.in-ok-whole.ensures
+    let e = rw (take_rest c.args.text.now (c.end_of_part-point.result + 1)) at c.with_decimals.ensures in
+    e ∙ sym (cond-false _ _ _ (ne_eqb c.end_of_part-point.result (length c.args.text.now) (search rules)))
+    ∙ by_whole c.args.text.now c.end_of_part-point.result c.end_of_part-point.ensures.value (Some c.in_ok-whole.whole) c.in_ok-whole.ensures

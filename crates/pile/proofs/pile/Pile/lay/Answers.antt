@@ -1,4 +1,4 @@
-use Rattle.std.proofs.Common.{◌≡◌, List, [], ◌∷◌, ◌++◌, vec_items, refl, ap, ◌∙◌, rules}
+use Rattle.std.proofs.Common.{◌≡◌, [], ◌∷◌, ◌++◌, vec_items, refl, ap, ◌∙◌, rules}
 use Rattle.pile.specs.Piles.{piled}
 use Rattle.pile.specs.PileLaws.{one_on_top}
 use Rattle.pile.proofs.pile.Pile.lay.Goals as goal

@@ -1,4 +1,4 @@
-use Rattle.std.proofs.Common.{◌≡◌, ◌+◌, ◌<◌, ◌≤◌, length, get_or, pos, sym, ◌∙◌, arith, w32, SFits, rules}
+use Rattle.std.proofs.Common.{◌+◌, get_or, pos, sym, ◌∙◌, w32, SFits, rules}
 use Rattle.std.proofs.lemmas.Int.{to_z-of_z}
 use Rattle.rulebook.proofs.AllPass.{one_failed, one_passed}
 use Rattle.rulebook.proofs.Drifting.{read_backwards, came_more, came_end}

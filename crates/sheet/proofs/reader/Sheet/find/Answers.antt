@@ -8,23 +8,23 @@ use Rattle.sheet.specs.Reader.{row_count}
 use Rattle.sheet.proofs.Accepted.{long_enough, row_within, range_right}
 use Rattle.sheet.proofs.reader.Sheet.find.Goals as goal
 
-pub returns-in-err-header : goal.returns-in-err-header
-returns-in-err-header c =
-    rw c.from-residual.ensures
-    (record { fields = λ a. absurd (omega (arith, long_enough c.args.self.now.bytes.now a, c.in-err-header.ensures)); range = tt })
+pub returns-in_err-header : goal.returns-in_err-header
+returns-in_err-header c =
+    rw c.from_residual.ensures
+    (record { fields = λ a. absurd (omega (arith, long_enough c.args.self.now.bytes.now a, c.in_err-header.ensures)); range = tt })
 
-pub returns-then-place-of-row-self : goal.returns-then-place-of-row-self
-returns-then-place-of-row-self c =
-    let e = c.in-ok-header.ensures.1 in
+pub returns-then-place_of_row-self : goal.returns-then-place_of_row-self
+returns-then-place_of_row-self c =
+    let e = c.in_ok-header.ensures.1 in
     let n = ap (λ (h : Header). h.row_count) e in
     let o = ap (λ (h : Header). h.rows_offset) e in
     let there : c.args.row < row_count c.args.self.now.bytes.now = omega arith in
     record { fields = λ a. absurd (omega (arith, row_within c.args.self.now.bytes.now a c.args.row there)); range = tt }
 
-pub returns-then-is-wrong-range : goal.returns-then-is-wrong-range
-returns-then-is-wrong-range c =
-    let e = c.in-ok-header.ensures.1 in
+pub returns-then-is_wrong_range : goal.returns-then-is_wrong_range
+returns-then-is_wrong_range c =
+    let e = c.in_ok-header.ensures.1 in
     let n = ap (λ (h : Header). h.row_count) e in
     let there : c.args.row < row_count c.args.self.now.bytes.now = omega arith in
-    let f = c.row-fields-fields.ensures ∙ ap (λ (h : Header). row_fields c.args.self.now.bytes.now h c.args.row) e in
-    record { fields = λ a. absurd (both_ways _ (range_right c.args.self.now.bytes.now a c.args.row there) (sym (ap wrong_range f) ∙ sym c.if-is-wrong-range.ensures)); range = tt }
+    let f = c.row_fields-fields.ensures ∙ ap (λ (h : Header). row_fields c.args.self.now.bytes.now h c.args.row) e in
+    record { fields = λ a. absurd (both_ways _ (range_right c.args.self.now.bytes.now a c.args.row there) (sym (ap wrong_range f) ∙ sym c.if-is_wrong_range.ensures)); range = tt }
