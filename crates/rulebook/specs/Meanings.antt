@@ -3,7 +3,7 @@
 -- Assumes nothing.
 use Rattle.std.specs.Prelude.{◌≡◌, ℕ, ◌^◌, ◌<◌, ◌≤◌, List, ℤ, FitsSigned}
 use Rattle.std.specs.Int.{w32}
-use Rattle.std.specs.List.{AllByRecursion as All}
+use Rattle.std.specs.List.{AllByRecursion}
 use Rattle.rulebook.specs.declared.verdict.Verdict.{Verdict}
 use Rattle.rulebook.specs.Verdicts.{severity}
 
@@ -16,7 +16,7 @@ Unit32 unit = unit < 2 ^ 32
 
 -- signed numbers of 32 bits, as many as there may be
 abbrev pub Window32 : List ℤ → Type 0
-Window32 window = All (FitsSigned w32) window
+Window32 window = AllByRecursion (FitsSigned w32) window
 
 -- two meanings give the same verdict for every unit and window
 abbrev pub SameMeaning : Meaning → Meaning → Type 0

@@ -1,7 +1,7 @@
 -- Where the ranges of each number are apart, at most one row holds for a number and a target.
 -- Assumes nothing.
 use Rattle.std.proofs.Common.{◌≡◌, ℕ, true, false, List, [], ◌∷◌, Some, Option, ◌∙◌, arith}
-use Rattle.std.specs.List.{AllByRecursion as All}
+use Rattle.std.specs.List.{AllByRecursion}
 use Rattle.std.proofs.lemmas.Bool.{cond-true, cond-false, and_parts}
 use Rattle.std.proofs.lemmas.Bool.Decides.{nat_tests}
 use Rattle.tolerance.specs.declared.table.ToleranceRow.{ToleranceRow}
@@ -13,14 +13,14 @@ module _ (n t : ℕ) where
 
   -- a row in front that is apart from the others does not hide them
   behind : (r : ToleranceRow) (rs qs : List ToleranceRow) → apart_from_all r qs ≡ true
-      → All (λ row. holds_for row n t ≡ true → first_holding rs n t ≡ Some row) qs
-      → All (λ row. holds_for row n t ≡ true → first_holding (r ∷ rs) n t ≡ Some row) qs
+      → AllByRecursion (λ row. holds_for row n t ≡ true → first_holding rs n t ≡ Some row) qs
+      → AllByRecursion (λ row. holds_for row n t ≡ true → first_holding (r ∷ rs) n t ≡ Some row) qs
   behind r rs [] a h = tt
   behind r rs (q ∷ qs) a h =
       let p = and_parts (apart r q) (apart_from_all r qs) a in
       (λ e. cond-false (holds_for r n t) (Some r) (first_holding rs n t) (not_both r q p.0 e) ∙ h.0 e, behind r rs qs p.1 h.1)
 
-  only_one : (rs : List ToleranceRow) → all_apart rs ≡ true → All (λ row. holds_for row n t ≡ true → first_holding rs n t ≡ Some row) rs
+  only_one : (rs : List ToleranceRow) → all_apart rs ≡ true → AllByRecursion (λ row. holds_for row n t ≡ true → first_holding rs n t ≡ Some row) rs
   only_one [] a = tt
   only_one (r ∷ rs) a =
       let p = and_parts (apart_from_all r rs) (all_apart rs) a in

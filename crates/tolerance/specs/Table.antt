@@ -2,7 +2,7 @@
 -- Targets are in hundredths of the analyte's unit; the permille is of the target, for a single value.
 -- Assumes nothing.
 use Rattle.std.specs.Prelude.{◌≡◌, ℕ, Bool, true, false, cond, not, ◌&&◌, ◌||◌, List, [], ◌∷◌, Some, None, Option, ◌==◌, nat_le, nat_lt}
-use Rattle.std.specs.List.{AllByRecursion as All}
+use Rattle.std.specs.List.{AllByRecursion}
 use Rattle.tolerance.specs.declared.table.ToleranceRow.{ToleranceRow}
 
 -- number, first target, last target, permille
@@ -54,7 +54,7 @@ all_apart (r ∷ rs) = apart_from_all r rs && all_apart rs
 
 -- no other row could be meant: each one that holds for the number and the target is the answer
 abbrev pub OnlyRow : List ToleranceRow → ℕ → ℕ → Option ToleranceRow → Type 0
-OnlyRow rows n t r = All (λ row. holds_for row n t ≡ true → r ≡ Some row) rows
+OnlyRow rows n t r = AllByRecursion (λ row. holds_for row n t ≡ true → r ≡ Some row) rows
 
 -- the table has a row of that number
 abbrev pub listed : ℕ → Bool
