@@ -13,13 +13,15 @@ use std::{env, fs};
 
 const USAGE: &str = "usage: nivzolda COMMAND ...
 
-  nivzolda sheet FILE                       read a package insert: its assays and their limits, or why it is refused
-  nivzolda judge FILE ASSAY RULES VALUE...  judge control values of one assay, one after the other
-  nivzolda help                             print this
+  nivzolda sheet FILE   read a package insert: its assays and their limits, or why it is refused
+  nivzolda judge FILE ASSAY RULES VALUE...
+                        judge control values of one assay, one after the other
+  nivzolda help         print this
 
 FILE is a package insert. ASSAY is a name in it, or @ and a row number. VALUE is in the assay's unit, with at most two
 decimals. RULES is swiss or german, and layers on top, lowest first, joined by +: side:K:LEVEL or drift:K:LEVEL.
 
+example: nivzolda sheet insert.bin
 example: nivzolda judge insert.bin K swiss+side:8:1+drift:6:2 4.02 4.13
 ";
 
