@@ -1,7 +1,8 @@
 #!/usr/bin/env python3
-"""Answers the examples of crates/cases from the rules as docs/RULES.md has them, apart from the Rattle code.
+"""Answers the examples of crates/cases and crates/rule_cases from the rules, apart from the Rattle code.
 
     tools/answer_cases.py < crates/cases/stdin | diff - crates/cases/stdout
+    tools/answer_cases.py < crates/rule_cases/stdin | diff - crates/rule_cases/stdout
 """
 import sys
 

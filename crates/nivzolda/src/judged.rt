@@ -96,3 +96,28 @@ pub(crate) fn report<B: Rulebook>(
         Err(refusal) => refused(heap, refusal),
     }
 }
+
+#[cfg(test)]
+mod tests {
+    use super::*;
+    use pile::read_rules;
+    use std::test::Fail;
+
+    // The sheet of one potassium row, with its name right after it.
+    const K: &[u8] =
+        b"\x00\x20\x00\x01\x00\x0a\x00\x01\x00\x1f\x00\x23\x00\x00\x01\x90\x00\x00\x01\x5e\x00\x00\x01\xc2\x00\x01\x86\xa0\x01\x00\x00K";
+
+    #[test]
+    fn a_series_is_judged(rt: HostRuntime) -> Result<(), Fail> {
+        let mut rules = read_rules(rt.alloc(), b"swiss+side:8:2+drift:6:1")
+            .ok()
+            .ok_or("no rules")?;
+        let values = [402, 413, 387, 402, 401, 402, 403, 404, 405, 406, 401, 399];
+        let text = report(rt.alloc(), K, b"K", &mut rules, &values)?;
+        assert_eq!(rt;
+            text.as_str(),
+            "4.02 fit\n4.13 warning\n3.87 alarm\n4.02 fit\n4.01 fit\n4.02 fit\n4.03 fit\n4.04 fit\n4.05 fit\n4.06 warning\n4.01 alarm\n3.99 fit\n"
+        );
+        Ok(())
+    }
+}

@@ -9,6 +9,7 @@ mod insert;
 mod judged;
 
 use anyhow::anyhow;
+use std::process::ExitCode;
 use std::{env, fs};
 
 const USAGE: &str = "usage: nivzolda COMMAND ...
@@ -92,8 +93,12 @@ fn run(rt: &HostRuntime) -> anyhow::Result<()> {
     }
 }
 
-fn main(rt: HostRuntime) -> anyhow::Result<()> {
-    run(&rt)
+// What went wrong was told on standard error where it happened.
+fn main(rt: HostRuntime) -> ExitCode {
+    match run(&rt) {
+        Ok(()) => ExitCode::SUCCESS,
+        Err(_) => ExitCode::FAILURE,
+    }
 }
 
 #[cfg(test)]
