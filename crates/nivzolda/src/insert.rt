@@ -100,12 +100,12 @@ pub(crate) fn report(heap: Global, bytes: &[u8]) -> Result<String, AllocError> {
 }
 
 #[cfg(test)]
-mod tests {
+pub(crate) mod tests {
     use super::*;
     use std::test::Fail;
 
     // The sheet of one potassium row, with its name right after it.
-    const K: &[u8] =
+    pub(crate) const K: &[u8] =
         b"\x00\x20\x00\x01\x00\x0a\x00\x01\x00\x1f\x00\x23\x00\x00\x01\x90\x00\x00\x01\x5e\x00\x00\x01\xc2\x00\x01\x86\xa0\x01\x00\x00K";
 
     #[test]

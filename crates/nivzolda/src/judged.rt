@@ -100,12 +100,9 @@ pub(crate) fn report<B: Rulebook>(
 #[cfg(test)]
 mod tests {
     use super::*;
+    use crate::insert::tests::K;
     use pile::read_rules;
     use std::test::Fail;
-
-    // The sheet of one potassium row, with its name right after it.
-    const K: &[u8] =
-        b"\x00\x20\x00\x01\x00\x0a\x00\x01\x00\x1f\x00\x23\x00\x00\x01\x90\x00\x00\x01\x5e\x00\x00\x01\xc2\x00\x01\x86\xa0\x01\x00\x00K";
 
     #[test]
     fn a_series_is_judged(rt: HostRuntime) -> Result<(), Fail> {
