@@ -93,7 +93,8 @@ fn run(rt: &HostRuntime) -> anyhow::Result<()> {
     }
 }
 
-// What went wrong was told on standard error where it happened.
+// An error ends the program with status 1. A wrong call, and a file, value or rule that cannot be read, has been told on
+// standard error by then; missing memory and a failed print have not.
 fn main(rt: HostRuntime) -> ExitCode {
     match run(&rt) {
         Ok(()) => ExitCode::SUCCESS,
