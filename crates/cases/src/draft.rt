@@ -1,5 +1,5 @@
 // A sheet that is written out field by field. Nothing in it need be right.
-use anyhow::anyhow;
+use anyhow::Context;
 use std::alloc::{AllocError, Global};
 use std::error::Error;
 use std::str::FromStr;
@@ -34,14 +34,13 @@ pub(crate) fn next<T: FromStr>(word: Option<&str>) -> anyhow::Result<T>
 where
     T::Err: Error,
 {
-    match word {
-        Some(text) => Ok(text.parse::<T>()?),
-        None => Err(anyhow!("a number is missing")),
-    }
+    Ok(word.context("a number is missing")?.parse::<T>()?)
 }
 
-impl Line {
-    fn parse(text: &str) -> anyhow::Result<Line> {
+impl FromStr for Line {
+    type Err = anyhow::Error;
+
+    fn from_str(text: &str) -> anyhow::Result<Line> {
         let mut words = text.split_whitespace();
         Ok(Line {
             table: next(words.next())?,
@@ -54,15 +53,25 @@ impl Line {
     }
 }
 
+impl Line {
+    // Writes the row's 21 bytes behind the others.
+    fn write(&self, rows: &mut Vec<u8>) -> Result<(), AllocError> {
+        rows.extend_from_slice(&self.table.to_be_bytes())?;
+        rows.extend_from_slice(&self.target.to_be_bytes())?;
+        rows.extend_from_slice(&self.lower.to_be_bytes())?;
+        rows.extend_from_slice(&self.upper.to_be_bytes())?;
+        rows.extend_from_slice(&100_000u32.to_be_bytes())?;
+        rows.push(self.name_length)?;
+        rows.extend_from_slice(&self.name_offset.to_be_bytes())
+    }
+}
+
 impl Draft {
     pub(crate) fn parse(heap: Global, text: &str) -> anyhow::Result<Draft> {
         let mut parts = text.split('|');
         let mut words = parts.next().unwrap_or("").split_whitespace();
-        let mut lines = Vec::new(heap);
-        for part in parts {
-            lines.push(Line::parse(part)?)?;
-        }
         Ok(Draft {
+            lines: parts.map(|part| part.parse::<Line>()).try_collect(heap)?,
             length: next(words.next())?,
             stated: next(words.next())?,
             rows: next(words.next())?,
@@ -70,51 +79,40 @@ impl Draft {
             names_length: next(words.next())?,
             names_at: next(words.next())?,
             names: String::from_str(heap, words.next().unwrap_or(""))?,
-            lines,
         })
+    }
+
+    fn header(&self) -> [u16; 5] {
+        [
+            self.stated,
+            self.rows,
+            self.rows_at,
+            self.names_length,
+            self.names_at,
+        ]
     }
 
     // The header is written last, over whatever lies there.
     pub(crate) fn bytes(&self, heap: Global) -> Result<Vec<u8>, AllocError> {
-        let mut sheet = vec![in heap; 0u8; usize::from(self.length)]?;
-        let mut at = usize::from(self.rows_at);
+        let mut rows = Vec::new(heap);
         for line in self.lines.iter() {
-            put_line(&mut sheet, at, line);
-            at = at.saturating_add(21);
+            line.write(&mut rows)?;
         }
-        put(
-            &mut sheet,
-            usize::from(self.names_at),
-            self.names.as_bytes(),
-        );
-        put(&mut sheet, 0, &self.stated.to_be_bytes());
-        put(&mut sheet, 2, &self.rows.to_be_bytes());
-        put(&mut sheet, 4, &self.rows_at.to_be_bytes());
-        put(&mut sheet, 6, &self.names_length.to_be_bytes());
-        put(&mut sheet, 8, &self.names_at.to_be_bytes());
+        let mut header = Vec::new(heap);
+        for field in self.header() {
+            header.extend_from_slice(&field.to_be_bytes())?;
+        }
+        let mut sheet = vec![in heap; 0u8; usize::from(self.length)]?;
+        put(&mut sheet, self.rows_at, &rows);
+        put(&mut sheet, self.names_at, self.names.as_bytes());
+        put(&mut sheet, 0, &header);
         Ok(sheet)
     }
 }
 
 // Writes the bytes from that place on, as far as there is room.
-fn put(sheet: &mut Vec<u8>, at: usize, bytes: &[u8]) {
-    for (i, byte) in bytes.iter().enumerate() {
-        if let Some(place) = sheet.get_mut(at.saturating_add(i)) {
-            *place = *byte;
-        }
+fn put(sheet: &mut [u8], at: u16, bytes: &[u8]) {
+    for (place, byte) in sheet.iter_mut().skip(usize::from(at)).zip(bytes) {
+        *place = *byte;
     }
-}
-
-fn put_line(sheet: &mut Vec<u8>, at: usize, line: &Line) {
-    put(sheet, at, &line.table.to_be_bytes());
-    put(sheet, at.saturating_add(2), &line.target.to_be_bytes());
-    put(sheet, at.saturating_add(6), &line.lower.to_be_bytes());
-    put(sheet, at.saturating_add(10), &line.upper.to_be_bytes());
-    put(sheet, at.saturating_add(14), &100_000u32.to_be_bytes());
-    put(sheet, at.saturating_add(18), &[line.name_length]);
-    put(
-        sheet,
-        at.saturating_add(19),
-        &line.name_offset.to_be_bytes(),
-    );
 }

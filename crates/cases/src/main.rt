@@ -43,12 +43,10 @@ fn outside_case(heap: Global, text: &str) -> anyhow::Result<String> {
 // The names with their places.
 fn names(heap: Global, sheet: &Sheet) -> anyhow::Result<String> {
     let mut text = String::from_str(heap, "accepted")?;
-    for row in 0..sheet.row_count() {
-        if let Some(name) = sheet.name(row) {
-            let label = std::str::from_utf8(name.bytes)?;
-            let place = name.place;
-            text.push_str(format!(in heap; " {label} at {place}")?.as_str())?;
-        }
+    for name in (0..sheet.row_count()).filter_map(|row| sheet.name(row)) {
+        let label = std::str::from_utf8(name.bytes)?;
+        let place = name.place;
+        text.push_str(format!(in heap; " {label} at {place}")?.as_str())?;
     }
     Ok(text)
 }
@@ -75,6 +73,7 @@ fn answer(heap: Global, line: &str) -> anyhow::Result<String> {
     }
 }
 
+// `rule_cases` has this loop too; why it has its own is said there.
 fn run(rt: &HostRuntime) -> anyhow::Result<()> {
     for line in rt.lines(rt.alloc()) {
         let line = line?;

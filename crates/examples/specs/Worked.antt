@@ -1,6 +1,8 @@
 -- Worked examples: what an insert states of an assay, what is measured and by which rules, and what follows.
 -- Assumes nothing.
-use Rattle.std.specs.Prelude.{ℕ, List, [], ◌∷◌, map}
+use Rattle.std.specs.Prelude.{ℕ, List, [], ◌∷◌, ◌++◌, map}
+use Rattle.tolerance.specs.declared.examples.WorkedLimit.{WorkedLimit}
+use Rattle.tolerance.specs.Examples.{worked_limits}
 use Rattle.tolerance.specs.Limits.{limit_of}
 use Rattle.rulebook.specs.Verdicts.{severity}
 use Rattle.rulebook.specs.Meanings.{Meaning}
@@ -36,21 +38,19 @@ abbrev pub by_rule : Example → List ℕ
 by_rule (limit_is a limit) = limit_for a ∷ []
 by_rule (verdicts_are a rules values verdicts) = map severity (verdicts_of rules (limit_for a) a.target values)
 
+-- a worked limit, as an example
+abbrev pub limit_example : WorkedLimit → Example
+limit_example e = limit_is (assay e.number e.target e.lower e.upper) e.limit
+
 abbrev pub potassium : Assay
 potassium = assay 35 400 350 450
 
 abbrev pub worked_examples : List Example
 worked_examples =
-    -- potassium: the table's share of the target is the smaller
-    limit_is potassium 18000
-    -- digoxin, on both sides of the border between its two ranges
-    ∷ limit_is (assay 19 100 50 200) 17500
-    ∷ limit_is (assay 19 101 50 200) 14140
-    -- chloride just below its range, where the insert alone decides, and at its first target
-    ∷ limit_is (assay 13 6999 6900 7200) 99000
-    ∷ limit_is (assay 13 7000 6900 7200) 100000
+    -- the limits
+    map limit_example worked_limits
     -- a first control, on both sides of two and of three standard deviations
-    ∷ verdicts_are potassium swiss (412 ∷ []) (0 ∷ [])
+    ++ verdicts_are potassium swiss (412 ∷ []) (0 ∷ [])
     ∷ verdicts_are potassium swiss (413 ∷ []) (1 ∷ [])
     ∷ verdicts_are potassium swiss (418 ∷ []) (1 ∷ [])
     ∷ verdicts_are potassium swiss (419 ∷ []) (2 ∷ [])

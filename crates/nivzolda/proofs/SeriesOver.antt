@@ -1,17 +1,9 @@
--- One value more in a series, and verdicts written over as many places.
+-- Verdicts written over as many places.
 -- Assumes nothing.
-use Rattle.std.proofs.Common.{◌≡◌, ℕ, suc, ◌+◌, ◌<◌, List, [], ◌∷◌, ◌++◌, map, length, get_or, take, ℤ, sym, refl, ap, ◌∙◌, arith}
-use Rattle.std.proofs.lemmas.List.{take_more, take_at, map_push, reverse-append}
-use Rattle.tolerance.specs.Deviations.{deviation_of}
+use Rattle.std.proofs.Common.{◌≡◌, ℕ, suc, List, [], ◌∷◌, ◌++◌, length, take, ℤ, refl, ap, ◌∙◌, arith}
+use Rattle.std.proofs.lemmas.List.{take_at}
 use Rattle.rulebook.specs.Meanings.{Meaning}
-use Rattle.rulebook.specs.Series.{series, over, deviations_of}
-
--- the next value's deviation comes in front
-pub next_in_front : (target : ℕ) (values : List ℕ) (i : ℕ) → i < length values
-    → deviation_of (get_or values i 0) target ∷ deviations_of target (take i values) ≡ deviations_of target (take (i + 1) values)
-next_in_front target values i h =
-    rw (take_more values i 0 h, map_push (λ value. deviation_of value target) (take i values) (get_or values i 0))
-    (sym (reverse-append (map (λ value. deviation_of value target) (take i values)) (deviation_of (get_or values i 0) target ∷ [])))
+use Rattle.rulebook.specs.Series.{series, over}
 
 -- as many verdicts as places take all of them
 pub over_all : {X : Type 0} (xs places : List X) → length xs ≡ length places → over xs places ≡ xs

@@ -3,7 +3,7 @@
 use Rattle.std.specs.Prelude.{ℕ, ◌/◌, ◌%◌, List, [], ◌∷◌, ◌++◌, codes, decimal}
 use Rattle.sheet.specs.declared.rows.Row.{Row}
 use Rattle.rulebook.specs.declared.verdict.Verdict.{Verdict}
-use Rattle.rulebook.specs.declared.verdict.Verdict.TheVariants.{Fit, Warning, Alarm}
+use Rattle.rulebook.specs.Verdicts.{verdict_word}
 
 -- a number of hundredths: the whole part, a point and two digits
 abbrev pub two_decimals : ℕ → List ℕ
@@ -33,11 +33,6 @@ row_end row place =
 
 abbrev pub row_line : ℕ → List ℕ → Row → ℕ → List ℕ
 row_line number label row place = row_start number label row ++ row_end row place
-
-abbrev pub verdict_word : Verdict → List ℕ
-verdict_word Fit = codes "fit"
-verdict_word Warning = codes "warning"
-verdict_word Alarm = codes "alarm"
 
 -- a value and its verdict
 abbrev pub judged_line : ℕ → Verdict → List ℕ

@@ -1,8 +1,17 @@
--- Values of a series, in hundredths.
+-- A value of a control, in hundredths of the assay's unit, and how it is written.
 -- Assumes nothing.
-use Rattle.std.specs.Prelude.{ℕ, ◌≤◌, List}
-use Rattle.std.specs.List.{AllByRecursion}
+use Rattle.std.specs.Prelude.{◌≡◌, ℕ, cond, List, Some, None, Ok, Err, Option, Result, option_and_then, nat_le}
+use Rattle.text.specs.Numbers.{hundredths_in}
 
 -- a value goes from 0 to 99,999
-abbrev pub InRange : List ℕ → Type 0
-InRange values = AllByRecursion (λ value. value ≤ 99999) values
+abbrev pub value_of : ℕ → Option ℕ
+value_of n = cond (nat_le n 99999) (Some n) None
+
+-- the value that a text says: a number with at most two decimals, in range
+abbrev pub value_in : List ℕ → Option ℕ
+value_in text = option_and_then value_of (hundredths_in text)
+
+-- the text is read as that value, or has none
+abbrev pub ReadsValue : {E : Type 0} → List ℕ → Result ℕ E → Type 0
+ReadsValue text (Ok v) = value_in text ≡ Some v
+ReadsValue text (Err e) = value_in text ≡ None

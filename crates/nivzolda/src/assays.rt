@@ -1,50 +1,34 @@
 // Which row of the sheet an argument means: a name of the sheet, or `@` and a row number.
 ghost use Rattle.std.specs.Prelude.{◌≡◌, ◌<◌, IfSome};
-ghost use Rattle.std.specs.Str.{bytes_eq};
-ghost use Rattle.sheet.specs.Header.{header_of};
-ghost use Rattle.sheet.specs.Names.{name_of};
-ghost use Rattle.sheet.specs.Reader.{sheet_bytes, Accepted, row_count};
-ghost use Rattle.nivzolda.specs.Assays.{row_named, row_numbered, row_meant};
+ghost use Rattle.sheet.specs.Reader.{sheet_bytes, row_count};
+ghost use Rattle.nivzolda.specs.Assays.{is_named, row_named, row_numbered, row_meant};
 
 use sheet::Sheet;
-use text::{is_same, number};
+use text::number;
 
-fn is_named(sheet: &Sheet, row: u32, name: &[u8]) -> bool
-    requires { (Accepted sheet.now) × (row < row_count (sheet_bytes sheet.now)) }
-    ensures { result ≡ bytes_eq (name_of (sheet_bytes sheet.now) (header_of (sheet_bytes sheet.now)) row) name.now }
+// Whether there is a row of that number, and it has that name.
+fn is_named(sheet: &Sheet, name: &[u8], row: u32) -> bool
+    ensures { result ≡ is_named (sheet_bytes sheet.now) name.now row }
 {
-    match sheet.name(row) {
-        Some(own) => is_same(own.bytes, name),
-        None => false,
-    }
+    sheet.name(row).is_some_and(|own| own.bytes == name)
 }
 
 fn row_named(sheet: &Sheet, name: &[u8]) -> Option<u32>
-    requires { Accepted sheet.now }
     ensures row { result ≡ row_named (sheet_bytes sheet.now) name.now }
     ensures there { IfSome result (λ k. k < row_count (sheet_bytes sheet.now)) }
 {
-    for row in 0..sheet.row_count() {
-        if is_named(sheet, row, name) {
-            return Some(row);
-        }
-    }
-    None
+    (0..sheet.row_count()).find(|row| is_named(sheet, name, *row))
 }
 
 fn row_numbered(sheet: &Sheet, digits: &[u8]) -> Option<u32>
-    requires { Accepted sheet.now }
     ensures row { result ≡ row_numbered (sheet_bytes sheet.now) digits.now }
     ensures there { IfSome result (λ k. k < row_count (sheet_bytes sheet.now)) }
 {
-    match number(digits) {
-        Some(row) if row < sheet.row_count() => Some(row),
-        _ => None,
-    }
+    let row = number(digits)?;
+    (row < sheet.row_count()).then_some(row)
 }
 
 pub(crate) fn row_meant(sheet: &Sheet, assay: &[u8]) -> Option<u32>
-    requires { Accepted sheet.now }
     ensures row { result ≡ row_meant (sheet_bytes sheet.now) assay.now }
     ensures there { IfSome result (λ k. k < row_count (sheet_bytes sheet.now)) }
 {

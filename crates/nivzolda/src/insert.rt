@@ -1,101 +1,82 @@
 // What the program says of a package insert.
-ghost use Rattle.std.specs.Prelude.{◌≡◌, IfOk, string_bytes};
-ghost use Rattle.sheet.specs.Refusals.{told};
-ghost use Rattle.sheet.specs.Reader.{Accepted};
-ghost use Rattle.nivzolda.specs.Lines.{refused_line, row_start, row_end, row_line};
+ghost use Rattle.std.specs.Prelude.{◌≡◌, IfOk, Some, string_bytes};
+ghost use Rattle.sheet.specs.Refusals.{told, refusal_words};
+ghost use Rattle.nivzolda.specs.Lines.{refused_line, row_line};
 
 use crate::decimal::Hundredths;
 use sheet::{Name, Refusal, Row, Sheet, read};
 use std::alloc::{AllocError, Global};
+use std::fmt;
 
-fn reason(refusal: &Refusal) -> &'static str {
-    match refusal {
-        Refusal::WrongLength => "under 10 or over 4096 bytes, or not the stated length",
-        Refusal::WrongRowCount => "no rows, or more than 16",
-        Refusal::WrongLayout =>
-            "rows or names start in the header, end beyond the sheet, or overlap",
-        Refusal::UnknownTable { .. } => "the table number is neither 0 nor in the table",
-        Refusal::WrongRange { .. } =>
-            "the target is 0, the ends do not enclose it, or the upper end is over 999.99",
-        Refusal::WrongName { .. } =>
-            "the name is not 1 to 12 bytes, lies outside its block, or has a byte other than A to Z and 0 to 9",
-        Refusal::RepeatedName { .. } => "an earlier row has that name",
-    }
-}
-
-fn refused_line(heap: Global, refusal: &Refusal, reason: &str) -> Result<String, AllocError>
-    ensures { IfOk result (λ t. string_bytes t ≡ refused_line (told refusal.now) reason.now) }
+// The line for a sheet that is refused.
+pub(crate) fn refused_line(heap: Global, refusal: &Refusal) -> Result<String, AllocError>
+    ensures { IfOk result (λ t. string_bytes t ≡ refused_line (told refusal.now) (refusal_words refusal.now)) }
 {
     let number = refusal.number();
     let row = refusal.row();
-    format!(in heap; "refused {number} at row {row}: {reason}\n")
+    format!(in heap; "refused {number} at row {row}: {refusal}\n")
 }
 
 // The bytes of a name as text: they are letters and digits.
 fn label(heap: Global, name: Name) -> Result<String, AllocError> {
-    let mut text = String::new(heap);
-    for byte in name.bytes {
-        text.push(char::from(*byte))?;
-    }
-    Ok(text)
-}
-
-fn row_start(heap: Global, number: u32, label: &str, row: Row) -> Result<String, AllocError>
-    ensures { IfOk result (λ t. string_bytes t ≡ row_start number label.now row) }
-{
-    let table = row.table;
-    let target = Hundredths(row.target);
-    format!(in heap; "row {number} {label} table {table} target {target}")
-}
-
-fn row_end(heap: Global, row: Row, place: usize) -> Result<String, AllocError>
-    ensures { IfOk result (λ t. string_bytes t ≡ row_end row place) }
-{
-    let lower = Hundredths(row.lower);
-    let upper = Hundredths(row.upper);
-    let last = row.last_minute;
-    let limit = row.limit;
-    format!(in heap; " ends {lower} {upper} last minute {last} limit {limit} name at {place}\n")
+    name.bytes
+        .iter()
+        .map(|byte| char::from(*byte))
+        .collect(heap)
 }
 
 // The line for a row of the sheet.
-fn row_line(
-    heap: Global,
+#[derive(Clone, Copy)]
+struct RowLine<'a> {
     number: u32,
-    label: &str,
+    label: &'a str,
     row: Row,
     place: usize,
-) -> Result<String, AllocError>
-    ensures { IfOk result (λ t. string_bytes t ≡ row_line number label.now row place) }
-{
-    let mut line = row_start(heap, number, label, row)?;
-    line.push_str(row_end(heap, row, place)?.as_str())?;
-    Ok(line)
 }
 
-fn accepted(heap: Global, sheet: &Sheet) -> Result<String, AllocError>
-    requires { Accepted sheet.now }
-{
+impl fmt::Display for RowLine<'_> {
+    ghost output = { λ x. Some (row_line x.number x.label.now x.row x.place) };
+
+    fn fmt<W: fmt::Write>(&self, f: &mut fmt::Formatter<W>) -> fmt::Result {
+        let number = self.number;
+        let label = self.label;
+        let table = self.row.table;
+        let target = Hundredths(self.row.target);
+        write!(f, "row {number} {label} table {table} target {target}")?;
+        let lower = Hundredths(self.row.lower);
+        let upper = Hundredths(self.row.upper);
+        let last = self.row.last_minute;
+        let limit = self.row.limit;
+        let place = self.place;
+        writeln!(
+            f,
+            " ends {lower} {upper} last minute {last} limit {limit} name at {place}"
+        )
+    }
+}
+
+fn accepted(heap: Global, sheet: &Sheet) -> Result<String, AllocError> {
     let rows = sheet.row_count();
     let mut text = format!(in heap; "accepted, {rows} rows\n")?;
+    // by number, which is printed, and by which a sheet hands out a row and a name
     for number in 0..rows {
-        let row = sheet.row(number).unwrap();
         let name = sheet.name(number).unwrap();
         let label = label(heap, name)?;
-        text.push_str(row_line(heap, number, label.as_str(), row, name.place)?.as_str())?;
+        let line = RowLine {
+            number,
+            label: label.as_str(),
+            row: sheet.row(number).unwrap(),
+            place: name.place,
+        };
+        write!(text, "{line}")?;
     }
     Ok(text)
-}
-
-// The line for a sheet that is refused.
-pub(crate) fn refused(heap: Global, refusal: Refusal) -> Result<String, AllocError> {
-    refused_line(heap, &refusal, reason(&refusal))
 }
 
 pub(crate) fn report(heap: Global, bytes: &[u8]) -> Result<String, AllocError> {
     match read(bytes) {
         Ok(sheet) => accepted(heap, &sheet),
-        Err(refusal) => refused(heap, refusal),
+        Err(refusal) => refused_line(heap, &refusal),
     }
 }
 
@@ -165,7 +146,7 @@ pub(crate) mod tests {
             ),
         ];
         for (refusal, line) in cases {
-            let text = refused_line(rt.alloc(), &refusal, reason(&refusal))?;
+            let text = refused_line(rt.alloc(), &refusal)?;
             assert_eq!(rt; text.as_str(), line);
         }
         Ok(())

@@ -1,44 +1,25 @@
 // What the program says of a series of control values.
 ghost use Rattle.std.specs.Prelude.{◌≡◌, ◌≤◌, IfOk, None, string_bytes};
 ghost use Rattle.sheet.specs.Acceptance.{refusal_of};
-ghost use Rattle.sheet.specs.Reader.{sheet_bytes, Accepted};
-ghost use Rattle.nivzolda.specs.Lines.{verdict_word, judged_line, judged_lines};
+ghost use Rattle.sheet.specs.Reader.{sheet_bytes};
+ghost use Rattle.nivzolda.specs.Lines.{judged_lines};
 ghost use Rattle.nivzolda.specs.Judged.{judged_row, no_such_row, judged_assay};
-ghost use Rattle.nivzolda.specs.Values.{InRange};
 
 use crate::assays::row_meant;
 use crate::control_series::verdicts;
-use crate::decimal::Hundredths;
-use crate::insert::refused;
+use crate::insert::refused_line;
+use crate::value::Value;
 use rulebook::{Rulebook, Verdict};
 use sheet::{Row, Sheet, read};
 use std::alloc::{AllocError, Global};
 
-fn word(verdict: Verdict) -> &'static str
-    ensures { result.now ≡ verdict_word verdict }
-{
-    match verdict {
-        Verdict::Fit => "fit",
-        Verdict::Warning => "warning",
-        Verdict::Alarm => "alarm",
-    }
-}
-
-fn judged_line(heap: Global, value: u32, verdict: Verdict) -> Result<String, AllocError>
-    ensures { IfOk result (λ t. string_bytes t ≡ judged_line value verdict) }
-{
-    let value = Hundredths(value);
-    let word = word(verdict);
-    format!(in heap; "{value} {word}\n")
-}
-
 // A line for each value with its verdict.
-fn judged_lines(heap: Global, values: &[u32], verdicts: &[Verdict]) -> Result<String, AllocError>
+fn judged_lines(heap: Global, values: &[Value], verdicts: &[Verdict]) -> Result<String, AllocError>
     ensures { IfOk result (λ t. string_bytes t ≡ judged_lines values.now verdicts.now) }
 {
     let mut text = String::new(heap);
-    for place in 0..values.len().min(verdicts.len()) {
-        text.push_str(judged_line(heap, values[place], verdicts[place])?.as_str())?;
+    for (value, verdict) in values.iter().zip(verdicts) {
+        writeln!(text, "{value} {verdict}")?;
     }
     Ok(text)
 }
@@ -48,12 +29,13 @@ fn judged_row<B: Rulebook>(
     heap: Global,
     rules: &mut B,
     row: Row,
-    values: &[u32],
+    values: &[Value],
 ) -> Result<String, AllocError>
-    requires { (row.target ≤ 99999) × (InRange values.now) }
+    requires { row.target ≤ 99999 }
     ensures { IfOk result (λ t. string_bytes t ≡ judged_row (B.Rulebook.meaning rules.old) row values.now) }
 {
-    let verdicts = verdicts(heap, rules, row.limit, row.target, values)?;
+    let target = Value::new(row.target).unwrap();
+    let verdicts = verdicts(heap, rules, row.limit, target, values)?;
     judged_lines(heap, values, &verdicts)
 }
 
@@ -69,9 +51,8 @@ fn judged_assay<B: Rulebook>(
     sheet: &Sheet,
     assay: &[u8],
     rules: &mut B,
-    values: &[u32],
+    values: &[Value],
 ) -> Result<String, AllocError>
-    requires { (Accepted sheet.now) × (InRange values.now) }
     ensures { IfOk result (λ t. string_bytes t ≡ judged_assay (sheet_bytes sheet.now) assay.now (B.Rulebook.meaning rules.old) values.now) }
 {
     match row_meant(sheet, assay) {
@@ -86,14 +67,13 @@ pub(crate) fn report<B: Rulebook>(
     bytes: &[u8],
     assay: &[u8],
     rules: &mut B,
-    values: &[u32],
+    values: &[Value],
 ) -> Result<String, AllocError>
-    requires { InRange values.now }
     ensures { IfOk result (λ t. refusal_of bytes.now ≡ None → string_bytes t ≡ judged_assay bytes.now assay.now (B.Rulebook.meaning rules.old) values.now) }
 {
     match read(bytes) {
         Ok(sheet) => judged_assay(heap, &sheet, assay, rules, values),
-        Err(refusal) => refused(heap, refusal),
+        Err(refusal) => refused_line(heap, &refusal),
     }
 }
 
@@ -109,7 +89,10 @@ mod tests {
         let mut rules = read_rules(rt.alloc(), b"swiss+side:8:2+drift:6:1")
             .ok()
             .ok_or("no rules")?;
-        let values = [402, 413, 387, 402, 401, 402, 403, 404, 405, 406, 401, 399];
+        let values: Vec<Value> = [402, 413, 387, 402, 401, 402, 403, 404, 405, 406, 401, 399]
+            .iter()
+            .filter_map(|hundredths| Value::new(*hundredths))
+            .collect(rt.alloc())?;
         let text = report(rt.alloc(), K, b"K", &mut rules, &values)?;
         assert_eq!(rt;
             text.as_str(),

@@ -7,6 +7,7 @@ mod control_series;
 mod decimal;
 mod insert;
 mod judged;
+mod value;
 
 use anyhow::anyhow;
 use std::process::ExitCode;

@@ -1,1 +1,1 @@
-pub mod ReadingSteps
+pub mod PileSteps

@@ -1,21 +1,21 @@
 -- Layers on a base, one on the other.
 -- Assumes nothing.
-use Rattle.std.specs.Prelude.{List, [], ◌∷◌, ℤ, vec_items}
+use Rattle.std.specs.Prelude.{List, fold, ℤ, vec_items}
 use Rattle.rulebook.specs.declared.verdict.Verdict.{Verdict}
+use Rattle.rulebook.specs.declared.house_rule.HouseRule.{HouseRule}
+use Rattle.rulebook.specs.HouseRules.{raised_by}
 use Rattle.rulebook.specs.Meanings.{Meaning}
-use Rattle.pile.specs.declared.choice.LayerChoice.{LayerChoice}
+use Rattle.pile.specs.declared.choice.LayerKind.{LayerKind}
 use Rattle.pile.specs.declared.pile.Pile.{Pile}
-use Rattle.pile.specs.Choices.{chosen_layer, raised_by}
+use Rattle.pile.specs.Choices.{condition_of_kind, chosen_layer}
 
 -- the layers lie on the base, the first of them lowest
-abbrev pub piled : List LayerChoice → Meaning → Meaning
-piled [] base = base
-piled (lowest ∷ upper) base = piled upper (chosen_layer lowest base)
+abbrev pub piled : List (HouseRule LayerKind) → Meaning → Meaning
+piled layers base = fold (λ below layer. chosen_layer layer below) base layers
 
 -- what the layers make of a verdict below them, one after the other
-abbrev pub raised_by_all : List LayerChoice → List ℤ → Verdict → Verdict
-raised_by_all [] window below = below
-raised_by_all (lowest ∷ upper) window below = raised_by_all upper window (raised_by lowest window below)
+abbrev pub raised_by_all : List (HouseRule LayerKind) → List ℤ → Verdict → Verdict
+raised_by_all layers window below = fold (λ verdict layer. raised_by condition_of_kind layer window verdict) below layers
 
 -- what a pile that is held in a value means, by what its base means
 abbrev pub pile_meaning : {B : Type 0} → (B → Meaning) → Pile B → Meaning

@@ -1,36 +1,43 @@
 -- A pile named by a text: a guideline and layers on top, lowest first, joined by `+`. A layer is its name, its k and its level,
 -- joined by `:`.
 -- Assumes nothing.
-use Rattle.std.specs.Prelude.{◌≡◌, ℕ, ◌+◌, cond, List, [], ◌∷◌, ◌++◌, length, Some, None, Ok, Err, vec_items, codes, Option, Result}
+use Rattle.std.specs.Prelude.{◌≡◌, ℕ, if◌then◌else◌, List, [], ◌∷◌, ◌++◌, Some, None, Ok, Err, vec_items, codes, Option, Result}
 use Rattle.std.specs.Str.{bytes_eq}
-use Rattle.text.specs.Parts.{parts}
+use Rattle.text.specs.Parts.{parts, placed}
 use Rattle.text.specs.Numbers.{number_in}
 use Rattle.pile.specs.declared.guideline.Guideline.{Guideline}
 use Rattle.pile.specs.declared.guideline.Guideline.TheVariants.{Swiss, German}
 use Rattle.pile.specs.declared.choice.LayerKind.{LayerKind}
 use Rattle.pile.specs.declared.choice.LayerKind.TheVariants.{Side, Drift}
-use Rattle.pile.specs.declared.choice.LayerChoice.{LayerChoice}
+use Rattle.rulebook.specs.declared.house_rule.HouseRule.{HouseRule}
+use Rattle.rulebook.specs.HouseRules.{house_rule}
 use Rattle.pile.specs.declared.pile.Pile.{Pile}
-use Rattle.pile.specs.declared.reading.RulesError.{RulesError}
-use Rattle.pile.specs.declared.reading.RulesError.TheVariants.{Wrong, NoMemory}
-use Rattle.pile.specs.declared.reading.Reason.{Reason}
-use Rattle.pile.specs.declared.reading.Reason.TheVariants.{UnknownGuideline, WrongFields, UnknownLayer, WrongK, WrongLevel}
+use Rattle.pile.specs.declared.reasons.RulesError.{RulesError}
+use Rattle.pile.specs.declared.reasons.RulesError.TheVariants.{Wrong, NoMemory}
+use Rattle.pile.specs.declared.reasons.Reason.{Reason}
+use Rattle.pile.specs.declared.reasons.Reason.TheVariants.{UnknownGuideline, WrongFields, UnknownLayer, WrongK, WrongLevel}
 
 abbrev pub guideline_named : List ℕ → Option Guideline
-guideline_named name = cond (bytes_eq name (codes "swiss")) (Some Swiss) (cond (bytes_eq name (codes "german")) (Some German) None)
+guideline_named name =
+    if bytes_eq name (codes "swiss") then Some Swiss
+    else if bytes_eq name (codes "german") then Some German
+    else None
 
 abbrev pub kind_named : List ℕ → Option LayerKind
-kind_named name = cond (bytes_eq name (codes "side")) (Some Side) (cond (bytes_eq name (codes "drift")) (Some Drift) None)
+kind_named name =
+    if bytes_eq name (codes "side") then Some Side
+    else if bytes_eq name (codes "drift") then Some Drift
+    else None
 
 -- a kind, a k and a level; the first that is missing is told
-abbrev pub chosen : Option LayerKind → Option ℕ → Option ℕ → Result LayerChoice Reason
+abbrev pub chosen : Option LayerKind → Option ℕ → Option ℕ → Result (HouseRule LayerKind) Reason
 chosen None n l = Err UnknownLayer
 chosen (Some d) None l = Err WrongK
 chosen (Some d) (Some n) None = Err WrongLevel
-chosen (Some d) (Some n) (Some l) = Ok (record { kind = d; k = n; level = l })
+chosen (Some d) (Some n) (Some l) = Ok (house_rule d n l)
 
 -- a layer has just three fields
-abbrev pub layer_from : List (List ℕ) → Result LayerChoice Reason
+abbrev pub layer_from : List (List ℕ) → Result (HouseRule LayerKind) Reason
 layer_from [] = Err WrongFields
 layer_from (name ∷ []) = Err WrongFields
 layer_from (name ∷ (n ∷ [])) = Err WrongFields
@@ -38,33 +45,33 @@ layer_from (name ∷ (n ∷ (l ∷ []))) = chosen (kind_named name) (number_in n
 layer_from (name ∷ (n ∷ (l ∷ (fourth ∷ more)))) = Err WrongFields
 
 -- `:` is 58
-abbrev pub layer_in : List ℕ → Result LayerChoice Reason
+abbrev pub layer_in : List ℕ → Result (HouseRule LayerKind) Reason
 layer_in part = layer_from (parts 58 part)
 
 -- what a text names: a guideline and the layers on it, lowest first; or the place of the first part that is wrong, and why
 abbrev pub Rules : Type 0
-Rules = Result (Guideline × List LayerChoice) (ℕ × Reason)
+Rules = Result (Guideline × List (HouseRule LayerKind)) (ℕ × Reason)
 
-abbrev pub laid : Result LayerChoice Reason → ℕ → (LayerChoice → Rules) → Rules
+abbrev pub laid : Result (HouseRule LayerKind) Reason → ℕ → (HouseRule LayerKind → Rules) → Rules
 laid (Ok layer) place on = on layer
 laid (Err reason) place on = Err (place, reason)
 
--- the layers that the parts name, the first of which starts at a place of the text, on those that are there
-abbrev pub layers_on : Guideline → List LayerChoice → ℕ → List (List ℕ) → Rules
-layers_on base layers place [] = Ok (base, layers)
-layers_on base layers place (part ∷ more) = laid (layer_in part) place (λ layer. layers_on base (layers ++ (layer ∷ [])) (place + length part + 1) more)
+-- the layers that the parts name, on those that are there
+abbrev pub layers_on : Guideline → List (HouseRule LayerKind) → List (ℕ × List ℕ) → Rules
+layers_on base layers [] = Ok (base, layers)
+layers_on base layers ((place, part) ∷ more) = laid (layer_in part) place (λ layer. layers_on base (layers ++ (layer ∷ [])) more)
 
-abbrev pub on_base : Option Guideline → ℕ → List (List ℕ) → Rules
-on_base None place more = Err (0, UnknownGuideline)
-on_base (Some base) place more = layers_on base [] place more
+abbrev pub on_base : Option Guideline → ℕ → List (ℕ × List ℕ) → Rules
+on_base None place more = Err (place, UnknownGuideline)
+on_base (Some base) place more = layers_on base [] more
 
-abbrev pub rules_from : List (List ℕ) → Rules
+abbrev pub rules_from : List (ℕ × List ℕ) → Rules
 rules_from [] = Err (0, UnknownGuideline)
-rules_from (first ∷ more) = on_base (guideline_named first) (length first + 1) more
+rules_from ((place, first) ∷ more) = on_base (guideline_named first) place more
 
 -- `+` is 43
 abbrev pub rules_in : List ℕ → Rules
-rules_in text = rules_from (parts 43 text)
+rules_in text = rules_from (placed 0 (parts 43 text))
 
 -- the answer is what the text names; of want of memory nothing is said
 abbrev pub ReadAs : Rules → Result (Pile Guideline) RulesError → Type 0

@@ -1,31 +1,26 @@
 // A layer chosen at run time.
 ghost use Rattle.std.specs.Prelude.{◌≡◌};
-ghost use Rattle.pile.specs.Choices.{raised_by};
+ghost use Rattle.pile.specs.Choices.{condition_of_kind};
 
-use rulebook::{Drift, HouseRule, Side, Verdict};
+use rulebook::{Condition, Drift, HouseRule, Side};
 
+// Which condition the layer looks for.
 #[derive(Clone, Copy)]
 pub enum LayerKind {
     Side,
     Drift,
 }
 
-// Which layer, and its k and level as they were given.
-#[derive(Clone, Copy)]
-pub struct LayerChoice {
-    pub kind: LayerKind,
-    pub k: u32,
-    pub level: u32,
-}
+impl Condition for LayerKind {
+    ghost found = { condition_of_kind };
 
-impl LayerChoice {
-    // The verdict that the layer makes of the one below it.
-    pub(crate) fn raise(&self, window: &[i32], below: Verdict) -> Verdict
-        ensures { result ≡ raised_by self.now window.now below }
-    {
-        match self.kind {
-            LayerKind::Side => HouseRule::new(Side, self.k, self.level).raise(window, below),
-            LayerKind::Drift => HouseRule::new(Drift, self.k, self.level).raise(window, below),
+    fn holds(&self, newest: &[i32]) -> bool {
+        match self {
+            LayerKind::Side => Side.holds(newest),
+            LayerKind::Drift => Drift.holds(newest),
         }
     }
 }
+
+// A kind with its k and its level, made by `LayerChoice::new`.
+pub type LayerChoice = HouseRule<LayerKind>;

@@ -5,7 +5,7 @@ ghost use Rattle.std.proofs.Common.{rules};
 
 use rulebook::{German, Rulebook, Swiss, Verdict};
 
-#[derive(Clone, Copy)]
+#[derive(Clone, Copy, Debug, PartialEq, Eq)]
 pub enum Guideline {
     Swiss,
     German,

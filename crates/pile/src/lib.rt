@@ -3,10 +3,13 @@
 
 mod choice;
 mod guideline;
+mod names;
 mod pile;
 mod reading;
+mod reasons;
 
 pub use choice::{LayerChoice, LayerKind};
 pub use guideline::Guideline;
 pub use pile::Pile;
-pub use reading::{Reason, RulesError, read_rules};
+pub use reading::read_rules;
+pub use reasons::{Reason, RulesError};

@@ -20,11 +20,9 @@ pub struct Pile<B> {
 fn raise_all(layers: &[LayerChoice], window: &[i32], below: Verdict) -> Verdict
     ensures { result ≡ raised_by_all layers.now window.now below }
 {
-    let mut verdict = below;
-    for layer in layers {
-        verdict = layer.raise(window, verdict);
-    }
-    verdict
+    layers
+        .iter()
+        .fold(below, |verdict, layer| layer.raise(window, verdict))
 }
 
 impl<B: Rulebook> Pile<B> {
@@ -32,7 +30,7 @@ impl<B: Rulebook> Pile<B> {
     pub fn new(heap: Global, base: B) -> Pile<B>
         ensures base { result.base ≡ base }
         ensures layers { result.layers.items ≡ [] }
-        ensures meaning { pile_meaning B.Rulebook.meaning result ≡ B.Rulebook.meaning base }
+        ensures meaning { pile_meaning B.meaning result ≡ B.meaning base }
     {
         Pile {
             base,
@@ -44,7 +42,7 @@ impl<B: Rulebook> Pile<B> {
     pub fn lay(&mut self, layer: LayerChoice) -> Result<(), AllocError>
         ensures base { self.new.base ≡ self.old.base }
         ensures layers { self.new.layers.items ≡ (if is_ok result then self.old.layers.items ++ (layer ∷ []) else self.old.layers.items) }
-        ensures meaning { pile_meaning B.Rulebook.meaning self.new ≡ (if is_ok result then chosen_layer layer (pile_meaning B.Rulebook.meaning self.old) else pile_meaning B.Rulebook.meaning self.old) }
+        ensures meaning { pile_meaning B.meaning self.new ≡ (if is_ok result then chosen_layer layer (pile_meaning B.meaning self.old) else pile_meaning B.meaning self.old) }
     {
         self.layers.push(layer)?;
         Ok(())
@@ -53,16 +51,16 @@ impl<B: Rulebook> Pile<B> {
     // The base. The whole pile is never milder than it.
     pub fn base(&self) -> &B
         ensures base { result.now ≡ self.now.base }
-        ensures never_milder { NeverMilder (pile_meaning B.Rulebook.meaning self.now) (B.Rulebook.meaning result.now) }
+        ensures never_milder { NeverMilder (pile_meaning B.meaning self.now) (B.meaning result.now) }
     {
         &self.base
     }
 }
 
 impl<B: Rulebook> Rulebook for Pile<B> {
-    ghost meaning = { pile_meaning B.Rulebook.meaning };
+    ghost meaning = { pile_meaning B.meaning };
 
-    ghost lawful = { λ b. piled_lawful b.layers.items (B.Rulebook.meaning b.base) (B.Rulebook.lawful b.base) };
+    ghost lawful = { λ b. piled_lawful b.layers.items (B.meaning b.base) (B.lawful b.base) };
 
     fn judge(&mut self, unit: u32, window: &[i32]) -> Verdict {
         let below = self.base.judge(unit, window);

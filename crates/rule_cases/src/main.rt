@@ -7,31 +7,21 @@
 
 use anyhow::anyhow;
 use pile::{Reason, RulesError, read_rules};
-use rulebook::{Rulebook, Verdict};
+use rulebook::Rulebook;
 use std::alloc::Global;
 use text::hundredths;
 
-fn word(verdict: Verdict) -> &'static str {
-    match verdict {
-        Verdict::Fit => "fit",
-        Verdict::Warning => "warning",
-        Verdict::Alarm => "alarm",
-    }
-}
-
 fn verdict_case(heap: Global, text: &str) -> anyhow::Result<String> {
     let mut words = text.split_whitespace();
-    let Ok(mut rules) = read_rules(heap, words.next().unwrap_or("").as_bytes()) else {
-        return Err(anyhow!("no such rules"));
-    };
+    let mut rules = read_rules(heap, words.next().unwrap_or("").as_bytes())?;
     let unit = words.next().unwrap_or("").parse::<u32>()?;
-    let mut window = Vec::new(heap);
-    for deviation in words {
-        window.push(deviation.parse::<i32>()?)?;
-    }
-    Ok(String::from_str(heap, word(rules.judge(unit, &window)))?)
+    let window: Vec<i32> = words
+        .map(|word| -> anyhow::Result<i32> { Ok(word.parse::<i32>()?) })
+        .try_collect(heap)?;
+    Ok(rules.judge(unit, &window).to_string(heap)?)
 }
 
+// Shorter words than a reason prints, since the stored lines have these.
 fn reason_words(reason: Reason) -> &'static str {
     match reason {
         Reason::UnknownGuideline => "unknown guideline",
@@ -69,6 +59,8 @@ fn answer(heap: Global, line: &str) -> anyhow::Result<String> {
     }
 }
 
+// `cases` has this loop too. It only prints: a crate for it would promise nothing, and a closure that it takes would need a
+// `requires`, which no public function has.
 fn run(rt: &HostRuntime) -> anyhow::Result<()> {
     for line in rt.lines(rt.alloc()) {
         let line = line?;

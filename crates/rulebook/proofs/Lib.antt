@@ -1,4 +1,2 @@
-pub mod AllPass
 pub mod Drifting
-pub mod NeverMilder
 pub mod SeriesSteps

@@ -1,23 +1,15 @@
--- A layer on a lawful meaning is lawful.
+-- A layer on a lawful meaning is lawful. It stands in specs/, since a ghost member imports from there alone.
 -- Assumes nothing.
-use Rattle.std.specs.Prelude.{◌≡◌, ℕ, ◌≤◌, Bool, false, List, [], length, take, ℤ, nat_le, refl}
+use Rattle.std.specs.Prelude.{◌≡◌, ℕ, ◌≤◌, Bool, false, List, [], length, take, ℤ, nat_le}
 use Rattle.std.proofs.Common.{ap, ◌∙◌, arith}
 use Rattle.std.proofs.lemmas.List.{take-take, length-take}
-use Rattle.std.proofs.lemmas.Bool.{cond_both, lt-leb}
 use Rattle.std.proofs.lemmas.Bool.Decides.{nat_tests}
 use Rattle.rulebook.specs.declared.verdict.Verdict.{Verdict}
-use Rattle.rulebook.specs.declared.verdict.Verdict.TheVariants.{Fit, Warning, Alarm}
-use Rattle.rulebook.specs.Verdicts.{higher}
+use Rattle.rulebook.specs.declared.verdict.Verdict.TheVariants.{Alarm}
 use Rattle.rulebook.specs.Meanings.{Meaning}
 use Rattle.rulebook.specs.Lawful.{Lawful}
 use Rattle.rulebook.specs.HouseRules.{counted_k, holds_of_newest, raised}
 use Rattle.rulebook.specs.Layers.{layered}
-
--- nothing is higher than an alarm
-higher_alarm : (level : Verdict) → higher level Alarm ≡ Alarm
-higher_alarm Fit = refl
-higher_alarm Warning = refl
-higher_alarm Alarm = refl
 
 module _ (condition : List ℤ → Bool) (k : ℕ) (level : Verdict) where
   -- a k counts as at most 12, so that what stands behind the newest twelve is not looked at
@@ -27,12 +19,13 @@ module _ (condition : List ℤ → Bool) (k : ℕ) (level : Verdict) where
       let enough : nat_le (counted_k k) (length (take 12 window)) ≡ nat_le (counted_k k) (length window) = simp length-take (grind (arith, nat_tests)) in
       rw (take-take (counted_k k) 12 window bound, enough)
 
+  -- nothing is higher than an alarm
   alarm_stays : (window : List ℤ) → raised condition k level window Alarm ≡ Alarm
-  alarm_stays window = cond_both (holds_of_newest condition (counted_k k) window) (higher level Alarm) Alarm (λ v. v ≡ Alarm) (λ _. higher_alarm level) (λ _. refl)
+  alarm_stays window = grind (arith, nat_tests)
 
   -- a k counts as at least 5, and there is none
   not_in_empty : holds_of_newest condition (counted_k k) [] ≡ false
-  not_in_empty = let none : nat_le (counted_k k) 0 ≡ false = lt-leb (counted_k k) 0 (omega arith) in rw none
+  not_in_empty = grind (arith, nat_tests)
 
   pub layered_lawful : (m : Meaning) → Lawful m → Lawful (layered condition k level m)
   layered_lawful m l =

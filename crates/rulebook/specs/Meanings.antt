@@ -1,9 +1,8 @@
 -- The meaning of a rulebook: a verdict for each unit and window of deviations, newest first.
 -- A unit is an unsigned number of 32 bits, a deviation a signed one of 32 bits; nothing is said of other numbers.
 -- Assumes nothing.
-use Rattle.std.specs.Prelude.{◌≡◌, ℕ, ◌^◌, ◌<◌, ◌≤◌, List, ℤ, FitsSigned}
+use Rattle.std.specs.Prelude.{◌≡◌, ℕ, ◌^◌, ◌<◌, ◌≤◌, List, ℤ, All, FitsSigned}
 use Rattle.std.specs.Int.{w32}
-use Rattle.std.specs.List.{AllByRecursion}
 use Rattle.rulebook.specs.declared.verdict.Verdict.{Verdict}
 use Rattle.rulebook.specs.Verdicts.{severity}
 
@@ -16,7 +15,7 @@ Unit32 unit = unit < 2 ^ 32
 
 -- signed numbers of 32 bits, as many as there may be
 abbrev pub Window32 : List ℤ → Type 0
-Window32 window = AllByRecursion (FitsSigned w32) window
+Window32 window = All (FitsSigned w32) window
 
 -- two meanings give the same verdict for every unit and window
 abbrev pub SameMeaning : Meaning → Meaning → Type 0

@@ -13,7 +13,7 @@ series m unit (newest ∷ older) = m unit (newest ∷ older) ∷ series m unit o
 -- values in the order in which they were measured: their deviations from the target, newest first, and their verdicts in the
 -- same order as the values
 abbrev pub deviations_of : ℕ → List ℕ → List ℤ
-deviations_of target values = reverse (map (λ value. deviation_of value target) values)
+deviations_of target values = map (λ value. deviation_of value target) (reverse values)
 
 abbrev pub verdicts_of : Meaning → ℕ → ℕ → List ℕ → List Verdict
 verdicts_of m unit target values = reverse (series m unit (deviations_of target values))

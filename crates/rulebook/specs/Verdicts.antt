@@ -1,6 +1,6 @@
--- The three verdicts and their numbers.
+-- The three verdicts, their numbers and their words.
 -- Assumes nothing.
-use Rattle.std.specs.Prelude.{ℕ, cond, nat_lt}
+use Rattle.std.specs.Prelude.{ℕ, if◌then◌else◌, nat_lt, List, codes}
 use Rattle.rulebook.specs.declared.verdict.Verdict.{Verdict}
 use Rattle.rulebook.specs.declared.verdict.Verdict.TheVariants.{Fit, Warning, Alarm}
 
@@ -11,4 +11,10 @@ severity Warning = 1
 severity Alarm = 2
 
 abbrev pub higher : Verdict → Verdict → Verdict
-higher a b = cond (nat_lt (severity a) (severity b)) b a
+higher a b = if nat_lt (severity a) (severity b) then b else a
+
+-- how a verdict is printed
+abbrev pub verdict_word : Verdict → List ℕ
+verdict_word Fit = codes "fit"
+verdict_word Warning = codes "warning"
+verdict_word Alarm = codes "alarm"

@@ -1,6 +1,8 @@
 // What a layer looks for in the newest deviations: all on one side of the target, or a drift.
 ghost use Rattle.std.specs.Prelude.{◌≡◌, Bool, List, reverse, ℤ};
-ghost use Rattle.rulebook.specs.Conditions.{leads, all_lie, all_move, one_sided, drifting};
+ghost use Rattle.std.specs.List.{list_all};
+ghost use Rattle.std.specs.Int.{is_positive, is_negative};
+ghost use Rattle.rulebook.specs.Conditions.{one_sided, rising, falling, drifting};
 
 // A condition on the newest deviations. They come newest first.
 pub trait Condition {
@@ -18,8 +20,20 @@ impl Condition for Side {
     ghost found = { λ _. one_sided };
 
     fn holds(&self, newest: &[i32]) -> bool {
-        Direction::Up.all_lie(newest) || Direction::Down.all_lie(newest)
+        are_above(newest) || are_below(newest)
     }
+}
+
+fn are_above(newest: &[i32]) -> bool
+    ensures { result ≡ list_all is_positive newest.now }
+{
+    newest.iter().all(|deviation| deviation.is_positive())
+}
+
+fn are_below(newest: &[i32]) -> bool
+    ensures { result ≡ list_all is_negative newest.now }
+{
+    newest.iter().all(|deviation| deviation.is_negative())
 }
 
 // From oldest to newest, strictly rising or strictly falling.
@@ -30,48 +44,19 @@ impl Condition for Drift {
     ghost found = { λ _. drifting };
 
     fn holds(&self, newest: &[i32]) -> bool {
-        Direction::Up.all_move(newest) || Direction::Down.all_move(newest)
+        are_rising(newest) || are_falling(newest)
     }
 }
 
-#[derive(Clone, Copy)]
-pub(crate) enum Direction {
-    Up,
-    Down,
+// The newest come first, so each that rises is above the one behind it.
+fn are_rising(newest: &[i32]) -> bool
+    ensures { result ≡ rising (reverse newest.now) }
+{
+    newest.is_sorted_by(|newer, older| newer > older)
 }
 
-impl Direction {
-    // Whether the second number is above the first, or below it.
-    fn leads(self, from: i32, to: i32) -> bool
-        ensures { result ≡ leads self from to }
-    {
-        match self {
-            Direction::Up => from < to,
-            Direction::Down => to < from,
-        }
-    }
-
-    // Whether all are above 0, or below it.
-    fn all_lie(self, newest: &[i32]) -> bool
-        ensures { result ≡ all_lie self newest.now }
-    {
-        for deviation in newest {
-            if !self.leads(0, *deviation) {
-                return false;
-            }
-        }
-        true
-    }
-
-    // Whether, from oldest to newest, each is above the one before it, or below it.
-    fn all_move(self, newest: &[i32]) -> bool
-        ensures { result ≡ all_move self (reverse newest.now) }
-    {
-        for place in 0..newest.len().saturating_sub(1) {
-            if !self.leads(newest[place + 1], newest[place]) {
-                return false;
-            }
-        }
-        true
-    }
+fn are_falling(newest: &[i32]) -> bool
+    ensures { result ≡ falling (reverse newest.now) }
+{
+    newest.is_sorted_by(|newer, older| newer < older)
 }

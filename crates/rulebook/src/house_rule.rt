@@ -17,10 +17,10 @@ pub struct HouseRule<C> {
 fn counted_k(k: u32) -> usize
     ensures { result ≡ counted_k k }
 {
-    k.max(5).min(12) as usize
+    k.clamp(5, 12) as usize
 }
 
-// A level is 1 or 2; any other number counts as 1.
+// A level is 1 or 2; any other number counts as 1: callers may pass any, and a narrower type would ask more of them.
 fn counted_level(level: u32) -> Verdict
     ensures { result ≡ counted_level level }
 {
@@ -32,9 +32,11 @@ fn counted_level(level: u32) -> Verdict
 
 // Whether there are k deviations and the condition holds of the newest k.
 fn holds_of_newest<C: Condition>(condition: &C, k: usize, window: &[i32]) -> bool
-    ensures { result ≡ holds_of_newest (C.Condition.found condition.now) k window.now }
+    ensures { result ≡ holds_of_newest (C.found condition.now) k window.now }
 {
-    k <= window.len() && condition.holds(&window[0..k])
+    window
+        .get(..k)
+        .is_some_and(|newest| condition.holds(newest))
 }
 
 impl<C: Condition> HouseRule<C> {
@@ -50,7 +52,7 @@ impl<C: Condition> HouseRule<C> {
 
     // The verdict that the rule makes of the one below it.
     pub fn raise(&self, window: &[i32], below: Verdict) -> Verdict
-        ensures { result ≡ raised_by C.Condition.found self.now window.now below }
+        ensures { result ≡ raised_by C.found self.now window.now below }
     {
         if holds_of_newest(&self.condition, counted_k(self.k), window) {
             self.level.higher(below)

@@ -1,7 +1,7 @@
 // A layer on a rulebook: a house rule over the verdict below. It can raise a verdict, and never lowers one.
 ghost use Rattle.std.specs.Prelude.{◌≡◌};
-ghost use Rattle.rulebook.specs.Conditions.{one_sided, drifting};
-ghost use Rattle.rulebook.specs.Layers.{side_layer, drift_layer, layer_meaning};
+ghost use Rattle.rulebook.specs.HouseRules.{counted_level};
+ghost use Rattle.rulebook.specs.Layers.{layered, side_layer, drift_layer, layer_meaning};
 ghost use Rattle.rulebook.specs.Meanings.{LiesOn};
 ghost use Rattle.rulebook.specs.LayersLawful.{layered_lawful};
 
@@ -22,9 +22,9 @@ pub type SideLayer<B> = Layer<Side, B>;
 pub type DriftLayer<B> = Layer<Drift, B>;
 
 impl<C: Condition, B: Rulebook> Rulebook for Layer<C, B> {
-    ghost meaning = { layer_meaning C.Condition.found B.Rulebook.meaning };
+    ghost meaning = { layer_meaning C.found B.meaning };
 
-    ghost lawful = { λ b. layered_lawful (C.Condition.found b.rule.condition) b.rule.k b.rule.level (B.Rulebook.meaning b.below) (B.Rulebook.lawful b.below) };
+    ghost lawful = { λ b. layered_lawful (C.found b.rule.condition) b.rule.k b.rule.level (B.meaning b.below) (B.lawful b.below) };
 
     fn judge(&mut self, unit: u32, window: &[i32]) -> Verdict {
         let below = self.below.judge(unit, window);
@@ -33,10 +33,21 @@ impl<C: Condition, B: Rulebook> Rulebook for Layer<C, B> {
 }
 
 impl<C: Condition, B: Rulebook> Layer<C, B> {
+    // A layer with a condition, a k and a level. It means the rule over what lies below, and is never milder than that.
+    pub fn new(condition: C, k: u32, level: u32, below: B) -> Layer<C, B>
+        ensures meaning { ⟦<Layer<C, B> as Rulebook>⟧.meaning result ≡ layered (C.found condition) k (counted_level level) (B.meaning below) }
+        ensures never_milder { LiesOn (⟦<Layer<C, B> as Rulebook>⟧.meaning result) (B.meaning below) }
+    {
+        Layer {
+            rule: HouseRule::new(condition, k, level),
+            below,
+        }
+    }
+
     // The rulebook below. The layer is never milder than it.
     pub fn below(&self) -> &B
         ensures below { result.now ≡ self.now.below }
-        ensures never_milder { LiesOn (layer_meaning C.Condition.found B.Rulebook.meaning self.now) (B.Rulebook.meaning result.now) }
+        ensures never_milder { LiesOn (⟦<Layer<C, B> as Rulebook>⟧.meaning self.now) (B.meaning result.now) }
     {
         &self.below
     }
@@ -44,22 +55,16 @@ impl<C: Condition, B: Rulebook> Layer<C, B> {
 
 // The side layer: when the newest k deviations are all above 0 or all below 0.
 pub fn side_layer<B: Rulebook>(k: u32, level: u32, below: B) -> SideLayer<B>
-    ensures meaning { layer_meaning (λ _. one_sided) B.Rulebook.meaning result ≡ side_layer k level (B.Rulebook.meaning below) }
-    ensures never_milder { LiesOn (layer_meaning (λ _. one_sided) B.Rulebook.meaning result) (B.Rulebook.meaning below) }
+    ensures meaning { ⟦<SideLayer<B> as Rulebook>⟧.meaning result ≡ side_layer k level (B.meaning below) }
+    ensures never_milder { LiesOn (⟦<SideLayer<B> as Rulebook>⟧.meaning result) (B.meaning below) }
 {
-    Layer {
-        rule: HouseRule::new(Side, k, level),
-        below,
-    }
+    Layer::new(Side, k, level, below)
 }
 
 // The drift layer: when the newest k deviations, from oldest to newest, rise strictly or fall strictly.
 pub fn drift_layer<B: Rulebook>(k: u32, level: u32, below: B) -> DriftLayer<B>
-    ensures meaning { layer_meaning (λ _. drifting) B.Rulebook.meaning result ≡ drift_layer k level (B.Rulebook.meaning below) }
-    ensures never_milder { LiesOn (layer_meaning (λ _. drifting) B.Rulebook.meaning result) (B.Rulebook.meaning below) }
+    ensures meaning { ⟦<DriftLayer<B> as Rulebook>⟧.meaning result ≡ drift_layer k level (B.meaning below) }
+    ensures never_milder { LiesOn (⟦<DriftLayer<B> as Rulebook>⟧.meaning result) (B.meaning below) }
 {
-    Layer {
-        rule: HouseRule::new(Drift, k, level),
-        below,
-    }
+    Layer::new(Drift, k, level, below)
 }

@@ -1,23 +1,15 @@
 // Whether the newest deviations are outside so many units.
 ghost use Rattle.std.specs.Prelude.{◌≡◌};
-ghost use Rattle.tolerance.specs.Deviations.{outside};
-ghost use Rattle.rulebook.specs.Outside.{as_read, newest_outside, newest_two_outside};
+ghost use Rattle.rulebook.specs.Outside.{newest_outside, newest_two_outside};
 
 use tolerance::is_outside;
 
-// Whether the size of the deviation exceeds k units. A unit of 0 is read as 1.
-fn is_outside_units(k: u32, deviation: i32, unit: u32) -> bool
-    ensures { result ≡ outside k deviation (as_read unit) }
-{
-    is_outside(k, i64::from(deviation), u64::from(unit.max(1)))
-}
-
-// Whether the newest deviation is outside k units. An empty window has none.
+// Whether the newest deviation is outside k units: its size exceeds them. A unit of 0 is read as 1; an empty window has none.
 pub fn is_newest_outside(k: u32, unit: u32, window: &[i32]) -> bool
     ensures { result ≡ newest_outside k unit window.now }
 {
     match window {
-        [newest, ..] => is_outside_units(k, *newest, unit),
+        [newest, ..] => is_outside(k, i64::from(*newest), u64::from(unit.max(1))),
         [] => false,
     }
 }
@@ -27,8 +19,7 @@ pub(crate) fn are_newest_two_outside(k: u32, unit: u32, window: &[i32]) -> bool
     ensures { result ≡ newest_two_outside k unit window.now }
 {
     match window {
-        [newest, previous, ..] => is_outside_units(k, *newest, unit)
-            && is_outside_units(k, *previous, unit),
-        _ => false,
+        [_, older @ ..] => is_newest_outside(k, unit, window) && is_newest_outside(k, unit, older),
+        [] => false,
     }
 }

@@ -1,6 +1,6 @@
 // A series of controls, judged one after the other.
-ghost use Rattle.std.specs.Prelude.{◌≡◌};
-ghost use Rattle.rulebook.specs.Meanings.{Window32, SameMeaning};
+ghost use Rattle.std.specs.Prelude.{◌≡◌, take};
+ghost use Rattle.rulebook.specs.Meanings.{SameMeaning};
 ghost use Rattle.rulebook.specs.Series.{series, over};
 
 use crate::interface::Rulebook;
@@ -9,23 +9,11 @@ use crate::verdict::Verdict;
 // The most deviations that a rulebook looks at.
 const WINDOW: usize = 12;
 
-// Reads a window through. It changes nothing: a proof learns from it that each deviation has 32 bits.
-fn read_window(window: &[i32])
-    ensures { Window32 window.now }
+// The newest twelve deviations of a window: no others count.
+fn newest(window: &[i32]) -> &[i32]
+    ensures { result.now ≡ take 12 window.now }
 {
-    for deviation in window {
-        let _read = *deviation;
-    }
-}
-
-// Asks the rulebook, with the newest twelve deviations of the window: no others count.
-fn judge_newest<B: Rulebook>(rulebook: &mut B, unit: u32, window: &[i32]) -> Verdict
-    requires { Window32 window.now }
-    ensures answer { result ≡ B.Rulebook.meaning rulebook.old unit window.now }
-    ensures same { SameMeaning (B.Rulebook.meaning rulebook.old) (B.Rulebook.meaning rulebook.new) }
-{
-    let count = window.len().min(WINDOW);
-    rulebook.judge(unit, &window[0..count])
+    window.get(..WINDOW).unwrap_or(window)
 }
 
 // Judges each control of a series with the older ones in its window, the oldest control first. Deviations and verdicts go
@@ -36,12 +24,15 @@ pub fn judge_series<B: Rulebook>(
     deviations: &[i32],
     verdicts: &mut [Verdict],
 )
-    ensures verdicts { verdicts.new ≡ over (series (B.Rulebook.meaning rulebook.old) unit deviations.now) verdicts.old }
-    ensures same { SameMeaning (B.Rulebook.meaning rulebook.old) (B.Rulebook.meaning rulebook.new) }
+    ensures verdicts { verdicts.new ≡ over (series (B.meaning rulebook.old) unit deviations.now) verdicts.old }
+    ensures same { SameMeaning (B.meaning rulebook.old) (B.meaning rulebook.new) }
 {
-    read_window(deviations);
-    let count = deviations.len().min(verdicts.len());
-    for place in (0..count).rev() {
-        verdicts[place] = judge_newest(rulebook, unit, &deviations[place..]);
+    // by place, since each control is judged by the deviations from its place on
+    for place in (0..deviations.len()).rev() {
+        // read, since only then does a proof know that a signed number of a slice has 32 bits
+        let _deviation = deviations[place];
+        if place < verdicts.len() {
+            verdicts[place] = rulebook.judge(unit, newest(&deviations[place..]));
+        }
     }
 }

@@ -1,36 +1,43 @@
 // What a rulebook answers.
-ghost use Rattle.std.specs.Prelude.{◌≡◌};
-ghost use Rattle.rulebook.specs.Verdicts.{severity, higher};
+ghost use Rattle.std.specs.Prelude.{◌≡◌, Some};
+ghost use Rattle.rulebook.specs.Verdicts.{severity, higher, verdict_word};
 
-#[derive(Clone, Copy)]
+use std::fmt;
+
+// The higher, the graver.
+#[derive(Clone, Copy, Debug, PartialEq, Eq, PartialOrd, Ord)]
 pub enum Verdict {
-    // 0: nothing to note
-    Fit,
-    // 1: to be noted
-    Warning,
-    // 2: the assay is stopped
-    Alarm,
+    // nothing to note
+    Fit = 0,
+    // to be noted
+    Warning = 1,
+    // the assay is stopped
+    Alarm = 2,
 }
 
 impl Verdict {
     pub fn number(self) -> u32
         ensures { result ≡ severity self }
     {
-        match self {
-            Verdict::Fit => 0,
-            Verdict::Warning => 1,
-            Verdict::Alarm => 2,
-        }
+        self as u32
     }
 
     // The higher of two verdicts.
     pub fn higher(self, other: Verdict) -> Verdict
         ensures { result ≡ higher self other }
     {
-        if self.number() < other.number() {
-            other
-        } else {
-            self
-        }
+        self.max(other)
+    }
+}
+
+impl fmt::Display for Verdict {
+    ghost output = { λ v. Some (verdict_word v) };
+
+    fn fmt<W: fmt::Write>(&self, f: &mut fmt::Formatter<W>) -> fmt::Result {
+        f.write_str(match self {
+            Verdict::Fit => "fit",
+            Verdict::Warning => "warning",
+            Verdict::Alarm => "alarm",
+        })
     }
 }

@@ -1,49 +1,42 @@
--- What is known of a sheet at which nothing is refused, or of which a test says something.
+-- What follows where a sheet, or one of its rows, is not refused; and that a short sheet is.
 -- Assumes nothing.
-use Rattle.std.proofs.Common.{◌≡◌, ℕ, ◌+◌, ◌<◌, ◌≤◌, true, false, not, ◌||◌, eqb, ltb, List, length, Some, None, sym, arith}
-use Rattle.std.proofs.lemmas.Bool.{lt-ltb, ltb-false, or_left, or_parts}
+use Rattle.std.proofs.Common.{◌≡◌, ℕ, ◌<◌, ◌≤◌, Bool, true, false, List, [], ◌∷◌, length, Some, None, refl, arith}
+use Rattle.std.proofs.lemmas.Bool.Decides.{nat_tests}
 use Rattle.sheet.specs.declared.header.Header.{Header}
+use Rattle.sheet.specs.declared.fields.Fields.{Fields}
 use Rattle.sheet.specs.Header.{header_of}
 use Rattle.sheet.specs.Fields.{row_place, row_fields}
-use Rattle.sheet.specs.Blocks.{rows_block, misplaced, wrong_layout}
-use Rattle.sheet.specs.Checks.{wrong_length, wrong_range}
-use Rattle.sheet.specs.Acceptance.{refusal_of, refusal_at, whole_refusal, whole_tests, row_refusal, row_tests, at_row}
+use Rattle.sheet.specs.Checks.{unknown_table, wrong_range, wrong_name, repeated_name}
+use Rattle.sheet.specs.Acceptance.{first_of, refusal_of, refusal_at, whole_refusal, row_refusal, at_row}
+use Rattle.sheet.specs.Rows.{InRange}
 use Rattle.sheet.specs.Reader.{row_count}
-use Rattle.sheet.proofs.Below.{or_else_none, none_below}
-use Rattle.sheet.proofs.FirstOf.{refused_at, all_passed}
+use Rattle.sheet.proofs.Below.{option_or_none, none_below}
 
 -- a sheet of fewer than ten bytes is refused with 1
-pub short_refused : (s : List ℕ) → length s < 10 → Some (1, 0) ≡ at_row 0 (whole_refusal s (header_of s))
+pub short_refused : (s : List ℕ) (h : Header) → length s < 10 → at_row 0 (whole_refusal s h) ≡ Some (1, 0)
 unfolding whole_refusal
-short_refused s h =
-    let e : true ≡ wrong_length (header_of s) (length s) =
-    sym (or_left (ltb (length s) 10) (ltb 4096 (length s) || not (eqb (header_of s).sheet_length (length s))) (lt-ltb (length s) 10 h)) in
-    refused_at 0 0 (whole_tests s (header_of s)) tt e
+short_refused s h l = grind (arith, nat_tests)
 
-module _ (s : List ℕ) (h : Header) (n : None ≡ at_row 0 (whole_refusal s h)) where
-  pub layout_right : wrong_layout h (length s) ≡ false
-  unfolding whole_refusal
-  layout_right = sym (all_passed 0 (whole_tests s h) n).1.1.0
+-- a sheet that is right as a whole has its rows within its bytes
+pub rows_within : (s : List ℕ) (h : Header) → at_row 0 (whole_refusal s h) ≡ None → row_place h h.row_count ≤ length s
+unfolding whole_refusal
+rows_within s h e = grind (arith, nat_tests)
 
-  pub rows_within : row_place h h.row_count ≤ length s
-  rows_within = ltb-false (length s) (rows_block h).end (or_parts _ _ (or_parts (misplaced (rows_block h) (length s)) _ layout_right).0).1
+-- where none of two tests and more holds, the second does not
+second_passed : (k : ℕ) (a b : Bool) (m n : ℕ) (ts : List (Bool × ℕ)) → at_row k (first_of ((a, m) ∷ (b, n) ∷ ts)) ≡ None → b ≡ false
+second_passed k true b m n ts e = cc
+second_passed k false true m n ts e = cc
+second_passed k false false m n ts e = refl
 
-module _ (s : List ℕ) (a : refusal_of s ≡ None) where
-  pub whole_accepted : None ≡ at_row 0 (whole_refusal s (header_of s))
-  whole_accepted = sym (or_else_none _ _ a).0
+in_range : (f : Fields) → wrong_range f ≡ false → InRange f
+in_range f e = grind (arith, nat_tests)
 
-  pub long_enough : 10 ≤ length s
-  unfolding whole_refusal
-  long_enough =
-      ltb-false (length s) 10 (or_parts (ltb (length s) 10) _ (sym (all_passed 0 (whole_tests s (header_of s)) whole_accepted).0)).0
+-- a row that is not refused has its range right
+range_right : (s : List ℕ) (h : Header) (f : Fields) (k : ℕ) → at_row k (row_refusal s h f k) ≡ None → InRange f
+unfolding row_refusal
+range_right s h f k e = in_range f (second_passed k (unknown_table f) (wrong_range f) 4 5 ((wrong_name s h f, 6) ∷ (repeated_name s h f k, 7) ∷ []) e)
 
-  module _ (k : ℕ) (there : k < row_count s) where
-    pub row_accepted : None ≡ refusal_at s (header_of s) k
-    row_accepted = sym (none_below (refusal_at s (header_of s)) (row_count s) (or_else_none (at_row 0 (whole_refusal s (header_of s))) _ a).1 k there)
-
-    pub row_within : row_place (header_of s) k + 21 ≤ length s
-    row_within = omega (arith, rows_within s (header_of s) whole_accepted)
-
-    pub range_right : wrong_range (row_fields s (header_of s) k) ≡ false
-    unfolding row_refusal
-    range_right = sym (all_passed k (row_tests s (header_of s) (row_fields s (header_of s) k) k) row_accepted).1.0
+-- each row of an accepted sheet has its range right
+pub range_accepted : (s : List ℕ) (k : ℕ) → refusal_of s ≡ None → k < row_count s → InRange (row_fields s (header_of s) k)
+range_accepted s k a there =
+    range_right s (header_of s) _ k (none_below (refusal_at s (header_of s)) (row_count s) k (option_or_none _ _ a).1 there)

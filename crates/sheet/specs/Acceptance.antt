@@ -1,11 +1,12 @@
 -- Which refusal a sheet gets: the first that applies. 1 to 3 are of the whole sheet, 4 to 7 are tested row by row.
 -- Assumes nothing.
 use Rattle.std.specs.Prelude.{ℕ, Bool, cond, List, [], ◌∷◌, length, Some, None, Option}
+use Rattle.std.specs.Option.{option_or}
 use Rattle.sheet.specs.declared.header.Header.{Header}
 use Rattle.sheet.specs.declared.fields.Fields.{Fields}
 use Rattle.sheet.specs.Header.{header_of}
 use Rattle.sheet.specs.Fields.{row_fields}
-use Rattle.sheet.specs.Below.{or_else, first_below}
+use Rattle.sheet.specs.Below.{first_below}
 use Rattle.sheet.specs.Blocks.{wrong_layout}
 use Rattle.sheet.specs.Checks.{wrong_length, wrong_row_count, unknown_table, wrong_range, wrong_name, repeated_name}
 
@@ -39,4 +40,4 @@ refusal_at s h k = at_row k (row_refusal s h (row_fields s h k) k)
 -- the number and the row of the first refusal that applies
 abbrev pub refusal_of : List ℕ → Option (ℕ × ℕ)
 refusal_of s =
-    or_else (at_row 0 (whole_refusal s (header_of s))) (first_below (refusal_at s (header_of s)) (header_of s).row_count)
+    option_or (at_row 0 (whole_refusal s (header_of s))) (first_below (refusal_at s (header_of s)) (header_of s).row_count)

@@ -2,20 +2,20 @@
 -- Assumes nothing.
 use Rattle.std.specs.Prelude.{ℕ, ◌+◌, ◌*◌, Bool, not, ◌||◌, nat_le, nat_lt}
 use Rattle.sheet.specs.declared.header.Header.{Header}
-use Rattle.sheet.specs.declared.blocks.Block.{Block}
+use Rattle.std.specs.declared.ops.Range.{Range}
 
-abbrev pub rows_block : Header → Block
+abbrev pub rows_block : Header → Range ℕ
 rows_block h = record { start = h.rows_offset; end = h.rows_offset + 21 * h.row_count }
 
-abbrev pub names_block : Header → Block
+abbrev pub names_block : Header → Range ℕ
 names_block h = record { start = h.names_offset; end = h.names_offset + h.names_length }
 
 -- it starts below 10 or ends beyond the sheet
-abbrev pub misplaced : Block → ℕ → Bool
+abbrev pub misplaced : Range ℕ → ℕ → Bool
 misplaced b size = nat_lt b.start 10 || nat_lt size b.end
 
 -- one of the two ends at or before the other's start
-abbrev pub apart : Block → Block → Bool
+abbrev pub apart : Range ℕ → Range ℕ → Bool
 apart a b = nat_le a.end b.start || nat_le b.end a.start
 
 abbrev pub wrong_layout : Header → ℕ → Bool

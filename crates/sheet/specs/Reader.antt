@@ -4,7 +4,6 @@ use Rattle.std.specs.Prelude.{◌≡◌, ℕ, ◌<◌, ◌≤◌, List, None, Op
 use Rattle.sheet.specs.declared.reader.Sheet.{Sheet}
 use Rattle.sheet.specs.declared.rows.Row.{Row}
 use Rattle.sheet.specs.declared.rows.Name.{Name}
-use Rattle.sheet.specs.declared.header.Header.{Header}
 use Rattle.sheet.specs.declared.fields.Fields.{Fields}
 use Rattle.sheet.specs.Header.{header_of}
 use Rattle.sheet.specs.Fields.{row_fields}
@@ -14,7 +13,7 @@ use Rattle.sheet.specs.Acceptance.{refusal_of}
 
 -- the bytes that a reader borrows
 abbrev pub sheet_bytes : Sheet → List ℕ
-sheet_bytes x = x.bytes.now
+sheet_bytes x = x.layout.bytes.now
 
 -- no refusal applies to them
 abbrev pub Accepted : Sheet → Type 0
@@ -32,8 +31,8 @@ row_of s k = row_from (row_fields s (header_of s) k)
 abbrev pub name_place_of : List ℕ → ℕ → ℕ
 name_place_of s k = name_place (header_of s) (row_fields s (header_of s) k)
 
-abbrev pub RightFields : List ℕ → ℕ → Header × Fields → Type 0
-RightFields s k x = (x.0 ≡ header_of s) × (x.1 ≡ row_fields s (header_of s) k)
+abbrev pub RightFields : List ℕ → ℕ → Fields → Type 0
+RightFields s k fields = fields ≡ row_fields s (header_of s) k
 
 abbrev pub RightRow : List ℕ → ℕ → Row → Type 0
 RightRow s k row = row ≡ row_of s k
@@ -41,7 +40,6 @@ RightRow s k row = row ≡ row_of s k
 abbrev pub RightName : List ℕ → ℕ → Name → Type 0
 RightName s k name = (name.place ≡ name_place_of s k) × (name.bytes.now ≡ name_of s (header_of s) k)
 
--- the answer of an accepted sheet for row k: there is one exactly where there is such a row, and then it is right
+-- the answer of a sheet for row k: there is one exactly where there is such a row, and then it is right
 abbrev pub HandsOut : {X : Type 0} → (List ℕ → ℕ → X → Type 0) → Sheet → ℕ → Option X → Type 0
-HandsOut Right x k r =
-    Accepted x → MatchOption r (row_count (sheet_bytes x) ≤ k) (λ v. (k < row_count (sheet_bytes x)) × Right (sheet_bytes x) k v)
+HandsOut Right x k r = MatchOption r (row_count (sheet_bytes x) ≤ k) (λ v. (k < row_count (sheet_bytes x)) × Right (sheet_bytes x) k v)

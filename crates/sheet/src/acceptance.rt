@@ -1,79 +1,75 @@
 // Accepts a sheet, or says the first thing that is wrong with it: the sheet as a whole, then row by row.
-ghost use Rattle.std.specs.Prelude.{◌≡◌, ◌+◌, ◌≤◌, length, IfOk};
+ghost use Rattle.std.specs.Prelude.{◌≡◌, ◌<◌, IfOk};
 ghost use Rattle.sheet.specs.Below.{first_below};
-ghost use Rattle.sheet.specs.Fields.{row_place};
-ghost use Rattle.sheet.specs.Header.{header_of};
-ghost use Rattle.sheet.specs.Acceptance.{refusal_at, whole_refusal, row_refusal, at_row};
+ghost use Rattle.sheet.specs.Acceptance.{refusal_of, refusal_at, whole_refusal, at_row};
 ghost use Rattle.sheet.specs.Refusals.{refused_with};
+ghost use Rattle.sheet.specs.Reader.{sheet_bytes, Accepted};
 
-use crate::blocks::is_wrong_layout;
-use crate::checks::{
-    is_repeated_name, is_unknown_table, is_wrong_length, is_wrong_name, is_wrong_range,
-    is_wrong_row_count,
-};
-use crate::fields::{Fields, row_fields};
-use crate::header::{Header, split_header};
+use crate::header::Header;
+use crate::layout::Layout;
+use crate::reader::Sheet;
 use crate::refusals::Refusal;
 
-fn check_whole(bytes: &[u8], header: Header) -> Result<(), Refusal>
-    ensures { refused_with result ≡ at_row 0 (whole_refusal bytes.now header) }
-{
-    if is_wrong_length(header, bytes.len()) {
-        return Err(Refusal::WrongLength);
+impl Header {
+    // Tests the sheet as a whole.
+    #[tactic(auto, unfolding(crate::specs::Acceptance::whole_refusal))]
+    pub(crate) fn check_whole(self, bytes: &[u8]) -> Result<(), Refusal>
+        ensures { refused_with result ≡ at_row 0 (whole_refusal bytes.now self) }
+    {
+        if self.is_wrong_length(bytes.len()) {
+            return Err(Refusal::WrongLength);
+        }
+        if self.is_wrong_row_count() {
+            return Err(Refusal::WrongRowCount);
+        }
+        if self.is_wrong_layout(bytes.len()) {
+            return Err(Refusal::WrongLayout);
+        }
+        Ok(())
     }
-    if is_wrong_row_count(header) {
-        return Err(Refusal::WrongRowCount);
-    }
-    if is_wrong_layout(header, bytes.len()) {
-        return Err(Refusal::WrongLayout);
-    }
-    Ok(())
 }
 
-// The header of a sheet that is right as a whole: its rows lie within it.
-pub(crate) fn accept_header(bytes: &[u8]) -> Result<Header, Refusal>
-    ensures refusal { refused_with result ≡ at_row 0 (whole_refusal bytes.now (header_of bytes.now)) }
-    ensures header { IfOk result (λ h. (h ≡ header_of bytes.now) × (row_place h h.row_count ≤ length bytes.now)) }
-{
-    let Some((header, _)) = split_header(bytes) else {
-        return Err(Refusal::WrongLength);
-    };
-    check_whole(bytes, header)?;
-    Ok(header)
+impl Layout<'_> {
+    // Tests one row.
+    #[tactic(auto, unfolding(crate::specs::Acceptance::row_refusal))]
+    fn check_row(&self, row: u32) -> Result<(), Refusal>
+        requires { row < self.now.header.row_count }
+        ensures { refused_with result ≡ refusal_at self.now.bytes.now self.now.header row }
+    {
+        let fields = self.fields(row);
+        if fields.is_unknown_table() {
+            return Err(Refusal::UnknownTable { row });
+        }
+        if fields.is_wrong_range() {
+            return Err(Refusal::WrongRange { row });
+        }
+        if self.is_wrong_name(fields) {
+            return Err(Refusal::WrongName { row });
+        }
+        if self.is_repeated_name(fields, row) {
+            return Err(Refusal::RepeatedName { row });
+        }
+        Ok(())
+    }
+
+    // Tests each row. A loop: over `try_for_each` the proof of which row is refused stays open.
+    #[tactic(auto, using(crate::proofs::Below::first_found))]
+    fn accept_rows(&self) -> Result<(), Refusal>
+        ensures { refused_with result ≡ first_below (refusal_at self.now.bytes.now self.now.header) self.now.header.row_count }
+    {
+        for row in 0..self.row_count() {
+            self.check_row(row)?;
+        }
+        Ok(())
+    }
 }
 
-fn check_fields(bytes: &[u8], header: Header, fields: Fields, row: u32) -> Result<(), Refusal>
-    requires { row_place header row ≤ length bytes.now }
-    ensures { refused_with result ≡ at_row row (row_refusal bytes.now header fields row) }
+// Accepts the sheet, or says the first thing that is wrong with it.
+pub fn read(bytes: &[u8]) -> Result<Sheet<'_>, Refusal>
+    ensures refusal { refused_with result ≡ refusal_of bytes.now }
+    ensures sheet { IfOk result (λ x. (sheet_bytes x ≡ bytes.now) × Accepted x) }
 {
-    if is_unknown_table(fields) {
-        return Err(Refusal::UnknownTable { row });
-    }
-    if is_wrong_range(fields) {
-        return Err(Refusal::WrongRange { row });
-    }
-    if is_wrong_name(bytes, header, fields) {
-        return Err(Refusal::WrongName { row });
-    }
-    if is_repeated_name(bytes, header, fields, row) {
-        return Err(Refusal::RepeatedName { row });
-    }
-    Ok(())
-}
-
-fn check_row(bytes: &[u8], header: Header, row: u32) -> Result<(), Refusal>
-    requires { row_place header row + 21 ≤ length bytes.now }
-    ensures { refused_with result ≡ refusal_at bytes.now header row }
-{
-    check_fields(bytes, header, row_fields(bytes, header, row), row)
-}
-
-pub(crate) fn accept_rows(bytes: &[u8], header: Header) -> Result<(), Refusal>
-    requires { row_place header header.row_count ≤ length bytes.now }
-    ensures { refused_with result ≡ first_below (refusal_at bytes.now header) header.row_count }
-{
-    for row in 0..u32::from(header.row_count) {
-        check_row(bytes, header, row)?;
-    }
-    Ok(())
+    let layout = Layout::new(bytes)?;
+    layout.accept_rows()?;
+    Ok(Sheet { layout })
 }

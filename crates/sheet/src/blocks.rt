@@ -3,52 +3,43 @@ ghost use Rattle.std.specs.Prelude.{◌≡◌};
 ghost use Rattle.sheet.specs.Blocks.{rows_block, names_block, misplaced, apart, wrong_layout};
 
 use crate::header::Header;
-
-// A part of the sheet: its first byte and the byte after its last, from the sheet's first byte.
-#[derive(Clone, Copy)]
-pub(crate) struct Block {
-    pub start: usize,
-    pub end: usize,
-}
-
-fn rows_of(header: Header) -> Block
-    ensures { result ≡ rows_block header }
-{
-    let start = usize::from(header.rows_offset);
-    Block {
-        start,
-        end: start + 21 * usize::from(header.row_count),
-    }
-}
-
-fn names_of(header: Header) -> Block
-    ensures { result ≡ names_block header }
-{
-    let start = usize::from(header.names_offset);
-    Block {
-        start,
-        end: start + usize::from(header.names_length),
-    }
-}
+use std::ops::Range;
 
 // Whether the block starts in the header or ends beyond the sheet.
-fn is_misplaced(block: Block, size: usize) -> bool
-    ensures { result ≡ misplaced block size }
+fn is_misplaced(block: &Range<usize>, size: usize) -> bool
+    ensures { result ≡ misplaced block.now size }
 {
     block.start < 10 || block.end > size
 }
 
 // Whether one of the two ends at or before the other's start.
-fn are_apart(a: Block, b: Block) -> bool
-    ensures { result ≡ apart a b }
+fn are_apart(a: &Range<usize>, b: &Range<usize>) -> bool
+    ensures { result ≡ apart a.now b.now }
 {
     a.end <= b.start || b.end <= a.start
 }
 
-pub(crate) fn is_wrong_layout(header: Header, size: usize) -> bool
-    ensures { result ≡ wrong_layout header size }
-{
-    let rows = rows_of(header);
-    let names = names_of(header);
-    is_misplaced(rows, size) || is_misplaced(names, size) || !are_apart(rows, names)
+// Blocks count from the sheet's first byte.
+impl Header {
+    fn rows_block(self) -> Range<usize>
+        ensures { result ≡ rows_block self }
+    {
+        let start = usize::from(self.rows_offset);
+        start..start + 21 * usize::from(self.row_count)
+    }
+
+    fn names_block(self) -> Range<usize>
+        ensures { result ≡ names_block self }
+    {
+        let start = usize::from(self.names_offset);
+        start..start + usize::from(self.names_length)
+    }
+
+    pub(crate) fn is_wrong_layout(self, size: usize) -> bool
+        ensures { result ≡ wrong_layout self size }
+    {
+        let rows = self.rows_block();
+        let names = self.names_block();
+        is_misplaced(&rows, size) || is_misplaced(&names, size) || !are_apart(&rows, &names)
+    }
 }

@@ -1,6 +1,6 @@
 // The fields of a row: 21 bytes for each assay, one row after another.
-ghost use Rattle.std.specs.Prelude.{◌≡◌, ◌+◌, ◌<◌, ◌≤◌, length, drop, MatchOption};
-ghost use Rattle.sheet.specs.Fields.{fields_of, row_place, row_fields};
+ghost use Rattle.std.specs.Prelude.{◌≡◌, ◌<◌, ◌≤◌, length, drop, MatchOption};
+ghost use Rattle.sheet.specs.Fields.{fields_of, row_place};
 
 use crate::header::Header;
 
@@ -17,6 +17,8 @@ pub(crate) struct Fields {
 }
 
 // The fields of the row at the front and the bytes after it; nothing where there are fewer than 21 bytes.
+// The project asks for this form: a pattern over the bytes that hands out the rest of them.
+#[tactic(auto, using(std::proofs::lemmas::List::take_rest), unfolding(crate::specs::Fields::fields_of))]
 pub(crate) fn split_fields(bytes: &[u8]) -> Option<(Fields, &[u8])>
     ensures { MatchOption result (length bytes.now < 21) (λ x. (21 ≤ length bytes.now) × (x.0 ≡ fields_of bytes.now) × (x.1.now ≡ drop 21 bytes.now)) }
 {
@@ -59,20 +61,11 @@ pub(crate) fn split_fields(bytes: &[u8]) -> Option<(Fields, &[u8])>
     Some((fields, rest))
 }
 
-// Where a row starts, from the sheet's first byte.
-pub(crate) fn place_of_row(header: Header, row: u32) -> usize
-    ensures { result ≡ row_place header row }
-{
-    usize::from(header.rows_offset) + 21 * row as usize
-}
-
-// The fields of a row that lies within the sheet.
-pub(crate) fn row_fields(bytes: &[u8], header: Header, row: u32) -> Fields
-    requires { row_place header row + 21 ≤ length bytes.now }
-    ensures { result ≡ row_fields bytes.now header row }
-{
-    match split_fields(&bytes[place_of_row(header, row)..]) {
-        Some((fields, _)) => fields,
-        None => unreachable(),
+impl Header {
+    // Where a row starts, from the sheet's first byte.
+    pub(crate) fn row_place(self, row: u32) -> usize
+        ensures { result ≡ row_place self row }
+    {
+        usize::from(self.rows_offset) + 21 * row as usize
     }
 }

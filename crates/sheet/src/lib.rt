@@ -6,11 +6,13 @@ mod blocks;
 mod checks;
 mod fields;
 mod header;
+mod layout;
 mod names;
 mod reader;
 mod refusals;
 mod rows;
 
-pub use reader::{Sheet, read};
+pub use acceptance::read;
+pub use reader::Sheet;
 pub use refusals::Refusal;
 pub use rows::{Name, Row};

@@ -1,37 +1,10 @@
 // The names of the assays: parts of the name block.
-ghost use Rattle.std.specs.Prelude.{◌≡◌, ◌≤◌, length, take, drop};
-ghost use Rattle.std.specs.Str.{bytes_eq};
-ghost use Rattle.sheet.specs.Fields.{row_place};
-ghost use Rattle.sheet.specs.Names.{name_place, name_bytes, other_byte, has_other_byte, same_name_before};
+ghost use Rattle.std.specs.Prelude.{◌≡◌};
+ghost use Rattle.sheet.specs.Names.{name_place, name_bytes, other_byte, has_other_byte};
 
-use crate::fields::{Fields, row_fields};
+use crate::fields::Fields;
 use crate::header::Header;
-
-// At most so many bytes from that place on: fewer where the bytes end before.
-fn part(bytes: &[u8], place: usize, count: usize) -> &[u8]
-    ensures { result.now ≡ take count (drop place bytes.now) }
-{
-    let start = place.min(bytes.len());
-    let end = place.saturating_add(count).min(bytes.len());
-    &bytes[start..end]
-}
-
-// Where the name of a row starts, from the sheet's first byte.
-pub(crate) fn place_of_name(header: Header, fields: Fields) -> usize
-    ensures { result ≡ name_place header fields }
-{
-    usize::from(header.names_offset) + usize::from(fields.name_offset)
-}
-
-pub(crate) fn bytes_of_name(bytes: &[u8], header: Header, fields: Fields) -> &[u8]
-    ensures { result.now ≡ name_bytes bytes.now header fields }
-{
-    part(
-        bytes,
-        place_of_name(header, fields),
-        usize::from(fields.name_length),
-    )
-}
+use crate::layout::Layout;
 
 // Whether the byte is none of A to Z and 0 to 9.
 fn is_other_byte(byte: u8) -> bool
@@ -40,33 +13,28 @@ fn is_other_byte(byte: u8) -> bool
     !matches!(byte, b'A'..=b'Z' | b'0'..=b'9')
 }
 
-pub(crate) fn holds_other_byte(name: &[u8]) -> bool
+pub(crate) fn has_other_byte(name: &[u8]) -> bool
     ensures { result ≡ has_other_byte name.now }
 {
-    for byte in name {
-        if is_other_byte(*byte) {
-            return true;
-        }
-    }
-    false
+    name.iter().any(|byte| is_other_byte(*byte))
 }
 
-fn is_same(a: &[u8], b: &[u8]) -> bool
-    ensures { result ≡ bytes_eq a.now b.now }
-{
-    a == b
+impl Header {
+    // Where the name of a row starts, from the sheet's first byte.
+    pub(crate) fn name_place(self, fields: Fields) -> usize
+        ensures { result ≡ name_place self fields }
+    {
+        usize::from(self.names_offset) + usize::from(fields.name_offset)
+    }
 }
 
-// Whether one of the rows before this one has that name.
-pub(crate) fn stands_before(bytes: &[u8], header: Header, row: u32, name: &[u8]) -> bool
-    requires { row_place header row ≤ length bytes.now }
-    ensures { result ≡ same_name_before bytes.now header row name.now }
-{
-    for earlier in 0..row {
-        let fields = row_fields(bytes, header, earlier);
-        if is_same(bytes_of_name(bytes, header, fields), name) {
-            return true;
-        }
+impl<'a> Layout<'a> {
+    // The bytes of a row's name: fewer where the sheet ends before.
+    pub(crate) fn name_bytes(&self, fields: Fields) -> &'a [u8]
+        ensures { result.now ≡ name_bytes self.now.bytes.now self.now.header fields }
+    {
+        let place = self.header.name_place(fields);
+        let rest = self.bytes.get(place..).unwrap_or(&[]);
+        rest.get(..usize::from(fields.name_length)).unwrap_or(rest)
     }
-    false
 }

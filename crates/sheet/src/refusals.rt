@@ -1,8 +1,11 @@
 // Why a sheet is refused. Each case has a number; those of a single row name the row.
-ghost use Rattle.std.specs.Prelude.{◌≡◌};
-ghost use Rattle.sheet.specs.Refusals.{told};
+ghost use Rattle.std.specs.Prelude.{◌≡◌, Some};
+ghost use Rattle.sheet.specs.Refusals.{told, refusal_words};
 
-#[derive(Clone, Copy)]
+use std::error::Error;
+use std::fmt;
+
+#[derive(Clone, Copy, Debug, PartialEq, Eq)]
 pub enum Refusal {
     // 1: under 10 or over 4,096 bytes, or not the stated length
     WrongLength,
@@ -21,6 +24,7 @@ pub enum Refusal {
 }
 
 impl Refusal {
+    // A match, since a case with a field has no number of its own to convert.
     pub fn number(&self) -> u32
         ensures { result ≡ (told self.now).0 }
     {
@@ -41,10 +45,46 @@ impl Refusal {
     {
         match self {
             Refusal::WrongLength | Refusal::WrongRowCount | Refusal::WrongLayout => 0,
-            Refusal::UnknownTable { row } => *row,
-            Refusal::WrongRange { row } => *row,
-            Refusal::WrongName { row } => *row,
-            Refusal::RepeatedName { row } => *row,
+            Refusal::UnknownTable { row }
+            | Refusal::WrongRange { row }
+            | Refusal::WrongName { row }
+            | Refusal::RepeatedName { row } => *row,
         }
+    }
+}
+
+// What is wrong, in words; the number and the row are left to the caller.
+impl fmt::Display for Refusal {
+    ghost output = { λ x. Some (refusal_words x) };
+
+    fn fmt<W: fmt::Write>(&self, f: &mut fmt::Formatter<W>) -> fmt::Result {
+        f.write_str(match self {
+            Refusal::WrongLength => "under 10 or over 4096 bytes, or not the stated length",
+            Refusal::WrongRowCount => "no rows, or more than 16",
+            Refusal::WrongLayout =>
+                "rows or names start in the header, end beyond the sheet, or overlap",
+            Refusal::UnknownTable { .. } => "the table number is neither 0 nor in the table",
+            Refusal::WrongRange { .. } =>
+                "the target is 0, the ends do not enclose it, or the upper end is over 999.99",
+            Refusal::WrongName { .. } =>
+                "the name is not 1 to 12 bytes, lies outside its block, or has a byte other than A to Z and 0 to 9",
+            Refusal::RepeatedName { .. } => "an earlier row has that name",
+        })
+    }
+}
+
+impl Error for Refusal {}
+
+#[cfg(test)]
+mod tests {
+    use super::*;
+    use std::test::Fail;
+
+    #[test]
+    fn a_refusal_is_printed_in_words(rt: HostRuntime) -> Result<(), Fail> {
+        let refusal = Refusal::RepeatedName { row: 15 };
+        let text = format!(in rt.alloc(); "{refusal}")?;
+        assert_eq!(rt; text.as_str(), "an earlier row has that name");
+        Ok(())
     }
 }

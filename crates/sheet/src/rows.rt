@@ -1,6 +1,5 @@
 // What a sheet hands out: a row with its limit, and a name with its place.
-ghost use Rattle.std.specs.Prelude.{◌≡◌, ◌≤◌};
-ghost use Rattle.tolerance.specs.Limits.{limit_of};
+ghost use Rattle.std.specs.Prelude.{◌≡◌};
 ghost use Rattle.sheet.specs.Rows.{InRange, RowInRange, row_from};
 
 use crate::fields::Fields;
@@ -25,16 +24,8 @@ pub struct Name<'a> {
     pub bytes: &'a [u8],
 }
 
-// The limit of an assay whose ends enclose the target and lie in range: it fits 32 bits.
-fn limit_from(fields: Fields) -> u32
-    requires { InRange fields }
-    ensures value { result ≡ limit_of fields.table fields.target fields.lower fields.upper }
-    ensures bound { result ≤ 99999000 }
-{
-    limit(fields.table, fields.target, fields.lower, fields.upper) as u32
-}
-
-// The row that the fields make.
+// The row that the fields make. The limit of an assay whose ends enclose the target and lie in range fits 32 bits.
+#[tactic(auto, using(tolerance::proofs::LimitBound::limit_bounded))]
 pub(crate) fn row_from(fields: Fields) -> Row
     requires { InRange fields }
     ensures row { result ≡ row_from fields }
@@ -46,6 +37,6 @@ pub(crate) fn row_from(fields: Fields) -> Row
         lower: fields.lower,
         upper: fields.upper,
         last_minute: fields.last_minute,
-        limit: limit_from(fields),
+        limit: limit(fields.table, fields.target, fields.lower, fields.upper) as u32,
     }
 }

@@ -1,1 +1,3 @@
-pub mod PartEnds
+pub mod Points
+pub mod DigitRuns
+pub mod PlacedParts

@@ -1,23 +1,17 @@
 -- Numbers in decimal digits, and values with up to two decimals.
 -- Assumes nothing.
-use Rattle.std.specs.Prelude.{ℕ, ◌+◌, ◌-◌, ◌*◌, ◌^◌, Bool, cond, ◌&&◌, List, [], ◌∷◌, length, take, drop, Some, None, Option, ◌==◌, nat_le, nat_lt}
-use Rattle.text.specs.Parts.{part_end}
-
-abbrev pub is_digit : ℕ → Bool
-is_digit b = nat_le 48 b && nat_le b 57
+use Rattle.std.specs.Prelude.{ℕ, ◌+◌, ◌-◌, ◌*◌, ◌^◌, if◌then◌else◌, ◌&&◌, List, [], ◌∷◌, codes, Some, None, Option, option_and_then, nat_lt}
+use Rattle.std.specs.Char.{is_ascii_digit}
+use Rattle.text.specs.Parts.{parts}
 
 -- one digit behind a number; none where the byte is no digit, or the number would pass 32 bits
 abbrev pub with_digit : ℕ → ℕ → Option ℕ
-with_digit n b = cond (is_digit b && nat_lt (10 * n + (b - 48)) (2 ^ 32)) (Some (10 * n + (b - 48))) None
-
-abbrev pub and_then : Option ℕ → (ℕ → Option ℕ) → Option ℕ
-and_then None f = None
-and_then (Some n) f = f n
+with_digit n b = if is_ascii_digit b && nat_lt (10 * n + (b - 48)) (2 ^ 32) then Some (10 * n + (b - 48)) else None
 
 -- the digits behind a number, one after the other
 abbrev pub with_digits : ℕ → List ℕ → Option ℕ
 with_digits n [] = Some n
-with_digits n (b ∷ bs) = and_then (with_digit n b) (λ m. with_digits m bs)
+with_digits n (b ∷ bs) = option_and_then (λ m. with_digits m bs) (with_digit n b)
 
 -- a number of 32 bits: decimal digits and nothing else, at least one
 abbrev pub number_in : List ℕ → Option ℕ
@@ -27,14 +21,17 @@ number_in (b ∷ bs) = with_digits 0 (b ∷ bs)
 -- up to two decimals, filled up with zeros
 abbrev pub two_decimals_on : ℕ → List ℕ → Option ℕ
 two_decimals_on n [] = None
-two_decimals_on n (a ∷ []) = with_digits n (a ∷ (48 ∷ []))
+two_decimals_on n (a ∷ []) = with_digits n (a ∷ codes "0")
 two_decimals_on n (a ∷ (b ∷ [])) = with_digits n (a ∷ (b ∷ []))
 two_decimals_on n (a ∷ (b ∷ (c ∷ more))) = None
 
--- a value in hundredths: a number, or a number, a point and one or two digits; `point` is where the first point stands
-abbrev pub hundredths_at : ℕ → List ℕ → Option ℕ
-hundredths_at point text =
-    and_then (number_in (take point text)) (λ n. cond (point == length text) (with_digits n (48 ∷ (48 ∷ []))) (two_decimals_on n (drop (point + 1) text)))
+-- a value in hundredths: a number, or a number, a point and one or two digits
+abbrev pub hundredths_from : List (List ℕ) → Option ℕ
+hundredths_from [] = None
+hundredths_from (whole ∷ []) = option_and_then (λ n. with_digits n (codes "00")) (number_in whole)
+hundredths_from (whole ∷ (decimals ∷ [])) = option_and_then (λ n. two_decimals_on n decimals) (number_in whole)
+hundredths_from (whole ∷ (decimals ∷ (third ∷ more))) = None
 
+-- `.` is 46
 abbrev pub hundredths_in : List ℕ → Option ℕ
-hundredths_in text = hundredths_at (part_end 46 text 0) text
+hundredths_in text = hundredths_from (parts 46 text)

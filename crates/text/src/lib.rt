@@ -5,4 +5,4 @@ mod numbers;
 mod parts;
 
 pub use numbers::{hundredths, number};
-pub use parts::{end_of_part, is_same, split_once};
+pub use parts::{Part, Parts, split_once};

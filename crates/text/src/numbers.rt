@@ -1,28 +1,24 @@
 // Numbers in decimal digits, and values with up to two decimals.
 ghost use Rattle.std.specs.Prelude.{◌≡◌};
-ghost use Rattle.text.specs.Numbers.{is_digit, with_digit, with_digits, number_in, two_decimals_on, hundredths_in};
+ghost use Rattle.text.specs.Numbers.{with_digit, with_digits, number_in, two_decimals_on, hundredths_in};
 
-use crate::parts::end_of_part;
+use crate::parts::split_once;
 
 // One digit behind a number.
 fn with_digit(value: u32, byte: u8) -> Option<u32>
     ensures { result ≡ with_digit value byte }
 {
-    if !byte.is_ascii_digit() {
-        return None;
-    }
-    value.checked_mul(10)?.checked_add(u32::from(byte - b'0'))
+    let digit = char::from(byte).to_digit(10)?;
+    value.checked_mul(10)?.checked_add(digit)
 }
 
 // The digits behind a number, one after the other.
 fn with_digits(value: u32, digits: &[u8]) -> Option<u32>
     ensures { result ≡ with_digits value digits.now }
 {
-    let mut value = value;
-    for digit in digits {
-        value = with_digit(value, *digit)?;
-    }
-    Some(value)
+    digits
+        .iter()
+        .try_fold(value, |value, digit| with_digit(value, *digit))
 }
 
 // A number of 32 bits: decimal digits and nothing else.
@@ -50,10 +46,8 @@ fn with_decimals(value: u32, decimals: &[u8]) -> Option<u32>
 pub fn hundredths(text: &[u8]) -> Option<u32>
     ensures { result ≡ hundredths_in text.now }
 {
-    let point = end_of_part(b'.', text, 0);
-    let whole = number(&text[0..point])?;
-    if point == text.len() {
-        return with_digits(whole, b"00");
+    match split_once(b'.', text) {
+        Some((whole, decimals)) => with_decimals(number(whole)?, decimals),
+        None => with_digits(number(text)?, b"00"),
     }
-    with_decimals(whole, &text[point + 1..])
 }

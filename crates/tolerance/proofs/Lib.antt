@@ -1,3 +1,2 @@
-pub mod FirstThat
 pub mod LimitBound
 pub mod RangesApart

@@ -1,8 +1,8 @@
 -- The table of tolerances, and how it is looked up.
 -- Targets are in hundredths of the analyte's unit; the permille is of the target, for a single value.
 -- Assumes nothing.
-use Rattle.std.specs.Prelude.{◌≡◌, ℕ, Bool, true, false, cond, not, ◌&&◌, ◌||◌, List, [], ◌∷◌, Some, None, Option, ◌==◌, nat_le, nat_lt}
-use Rattle.std.specs.List.{AllByRecursion}
+use Rattle.std.specs.Prelude.{◌≡◌, ℕ, Bool, true, not, ◌&&◌, ◌||◌, List, [], ◌∷◌, Some, Option, find, All, ◌==◌, nat_le, nat_lt}
+use Rattle.std.specs.List.{list_all, list_any}
 use Rattle.tolerance.specs.declared.table.ToleranceRow.{ToleranceRow}
 
 -- number, first target, last target, permille
@@ -28,34 +28,22 @@ tolerances =
 abbrev pub holds_for : ToleranceRow → ℕ → ℕ → Bool
 holds_for r n t = r.number == n && (nat_le r.first t && nat_le t r.last)
 
-abbrev pub first_holding : List ToleranceRow → ℕ → ℕ → Option ToleranceRow
-first_holding [] n t = None
-first_holding (r ∷ rs) n t = cond (holds_for r n t) (Some r) (first_holding rs n t)
-
-abbrev pub any_numbered : List ToleranceRow → ℕ → Bool
-any_numbered [] n = false
-any_numbered (r ∷ rs) n = cond (r.number == n) true (any_numbered rs n)
-
 -- the row of the table that holds for a number and a target, if there is one
 abbrev pub tolerance_for : ℕ → ℕ → Option ToleranceRow
-tolerance_for n t = first_holding tolerances n t
+tolerance_for n t = find (λ r. holds_for r n t) tolerances
 
 -- two rows are for different numbers, or the range of one ends before the other's begins
 abbrev pub apart : ToleranceRow → ToleranceRow → Bool
 apart r q = not (r.number == q.number) || (nat_lt r.last q.first || nat_lt q.last r.first)
 
-abbrev pub apart_from_all : ToleranceRow → List ToleranceRow → Bool
-apart_from_all r [] = true
-apart_from_all r (q ∷ qs) = apart r q && apart_from_all r qs
-
 abbrev pub all_apart : List ToleranceRow → Bool
 all_apart [] = true
-all_apart (r ∷ rs) = apart_from_all r rs && all_apart rs
+all_apart (r ∷ rs) = list_all (apart r) rs && all_apart rs
 
 -- no other row could be meant: each one that holds for the number and the target is the answer
-abbrev pub OnlyRow : List ToleranceRow → ℕ → ℕ → Option ToleranceRow → Type 0
-OnlyRow rows n t r = AllByRecursion (λ row. holds_for row n t ≡ true → r ≡ Some row) rows
+unfoldable pub OnlyRow : List ToleranceRow → ℕ → ℕ → Option ToleranceRow → Type 0
+OnlyRow rows n t r = All (λ row. holds_for row n t ≡ true → r ≡ Some row) rows
 
 -- the table has a row of that number
 abbrev pub listed : ℕ → Bool
-listed n = any_numbered tolerances n
+listed n = list_any (λ r. r.number == n) tolerances

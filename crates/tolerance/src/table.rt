@@ -1,6 +1,6 @@
 // The table of tolerances: how far a single value may lie from its target, by analyte and target range.
-ghost use Rattle.std.specs.Prelude.{◌≡◌, true};
-ghost use Rattle.tolerance.specs.Table.{holds_for, first_holding, any_numbered, tolerances, tolerance_for, all_apart, OnlyRow, listed};
+ghost use Rattle.std.specs.Prelude.{◌≡◌, find};
+ghost use Rattle.tolerance.specs.Table.{holds_for, tolerances, tolerance_for, OnlyRow, listed};
 
 // One target range of one analyte. Targets are in hundredths of the analyte's unit.
 #[derive(Clone, Copy)]
@@ -88,34 +88,19 @@ impl ToleranceRow {
     fn holds(&self, number: u16, target: u32) -> bool
         ensures { result ≡ holds_for self.now number target }
     {
-        self.number == number && self.first <= target && target <= self.last
+        self.number == number && (self.first..=self.last).contains(&target)
     }
 }
 
+// The first of the rows that holds for that table number and target.
 fn first_holding(rows: &[ToleranceRow], number: u16, target: u32) -> Option<ToleranceRow>
-    ensures row { result ≡ first_holding rows.now number target }
-    ensures only { all_apart rows.now ≡ true → OnlyRow rows.now number target result }
+    ensures { result ≡ find (λ row. holds_for row number target) rows.now }
 {
-    for row in rows {
-        if row.holds(number, target) {
-            return Some(*row);
-        }
-    }
-    None
-}
-
-fn any_numbered(rows: &[ToleranceRow], number: u16) -> bool
-    ensures { result ≡ any_numbered rows.now number }
-{
-    for row in rows {
-        if row.number == number {
-            return true;
-        }
-    }
-    false
+    rows.iter().copied().find(|row| row.holds(number, target))
 }
 
 // The row of the table for that number whose range holds the target, if there is one.
+#[tactic(auto, using(crate::proofs::RangesApart::only_row))]
 pub fn lookup(number: u16, target: u32) -> Option<ToleranceRow>
     ensures row { result ≡ tolerance_for number target }
     ensures only { OnlyRow tolerances number target result }
@@ -127,5 +112,5 @@ pub fn lookup(number: u16, target: u32) -> Option<ToleranceRow>
 pub fn is_listed(number: u16) -> bool
     ensures { result ≡ listed number }
 {
-    any_numbered(&TOLERANCES, number)
+    TOLERANCES.iter().any(|row| row.number == number)
 }

@@ -1,16 +1,32 @@
-use Rattle.std.proofs.Common.{◌≡◌, ◌+◌, ◌-◌, take, ◌∙◌, rules}
-use Rattle.std.proofs.lemmas.List.{take_all, take_rest}
-use Rattle.text.proofs.PartEnds.{part_at, behind_end, behind_separator}
+use Rattle.std.proofs.Common.{◌≡◌, ℕ, ◌+◌, ◌<◌, length, eqb, List, [], ◌∷◌, take, drop, Some, None, position, sym, ap, ◌∙◌, arith, rules, tests}
+use Rattle.std.specs.List.{position_or_len}
+use Rattle.std.proofs.lemmas.Bool.Decides.{nat_tests}
+use Rattle.std.proofs.lemmas.Iterator.{YieldsList-from_slice}
+use Rattle.std.proofs.lemmas.Iterator.Search.{position_from_yields_List}
+use Rattle.std.proofs.lemmas.List.{take_rest}
+use Rattle.std.proofs.lemmas.List.Splits.{slice_split_none, slice_split_first}
+use Rattle.std.proofs.lemmas.List.Sums.{fails_before_first}
+use Rattle.std.proofs.lemmas.Option.{cond_some}
+use Rattle.text.specs.Parts.{parts}
 use Rattle.text.proofs.parts.split_once.Goals as goal
 
-pub returns-then-end-text : goal.returns-then-end-text
-returns-then-end-text c =
-    let whole : take (c.end_of_part-end.result - 0) c.args.text.now ≡ c.args.text.now = take_all (c.end_of_part-end.result - 0) c.args.text.now (search rules) in
-    let none = behind_end c.args.separator c.args.text.now c.end_of_part-end.result (search rules) in
-    part_at c.args.separator c.args.text.now 0 c.end_of_part-end.result (search rules) c.end_of_part-end.ensures.value ∙ (rw (whole, none))
+module _ (sep : ℕ) (text : List ℕ) where
+  one_part : None ≡ position (λ b. eqb b sep) text → parts sep text ≡ (text ∷ [])
+  one_part e = slice_split_none (λ b. eqb b sep) text (λ k d h. fails_before_first (λ b. eqb b sep) text k d (grind (arith, nat_tests)))
 
-pub returns : goal.returns
-returns c =
-    let more = behind_separator c.args.separator c.args.text.now c.end_of_part-end.result (search rules) in
-    let rest = take_rest c.args.text.now (c.end_of_part-end.result + 1) in
-    part_at c.args.separator c.args.text.now 0 c.end_of_part-end.result (search rules) c.end_of_part-end.ensures.value ∙ (rw (more, rest))
+  cut_at : (place : ℕ) → Some place ≡ position (λ b. eqb b sep) text → parts sep text ≡ (take place text ∷ parts sep (drop (place + 1) text))
+  cut_at place e =
+      let first : position_or_len (λ b. eqb b sep) text ≡ place = (cond_some _ _ _ (sym e)).1 in
+      let within : position_or_len (λ b. eqb b sep) text < length text = grind (arith, nat_tests) in
+      rw first at (slice_split_first (λ b. eqb b sep) text 0 within)
+
+pub returns-in_err-end-clause-cut : goal.returns-in_err-end-clause-cut
+returns-in_err-end-clause-cut c =
+    let place = position_from_yields_List (λ b. eqb b c.args.separator) _ _ c.position.result c.position.ensures.ran (YieldsList-from_slice c.args.text.now (cc)) (λ x b q k. search (rules, tests)) in
+    rw c.from_residual.ensures (one_part c.args.separator c.args.text.now (sym (c.in_err-end.was) ∙ place))
+
+pub returns-clause-cut : goal.returns-clause-cut
+returns-clause-cut c =
+    let place = position_from_yields_List (λ b. eqb b c.args.separator) _ _ c.position.result c.position.ensures.ran (YieldsList-from_slice c.args.text.now (cc)) (λ x b q k. search (rules, tests)) in
+    cut_at c.args.separator c.args.text.now c.in_ok-end.end (sym (c.in_ok-end.was) ∙ place)
+    ∙ ap (λ rest. take c.in_ok-end.end c.args.text.now ∷ parts c.args.separator rest) (sym (take_rest c.args.text.now (c.in_ok-end.end + 1)))
