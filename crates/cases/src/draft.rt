@@ -30,7 +30,7 @@ pub struct Draft {
 }
 
 // The number that a word says.
-pub(crate) fn next<T: FromStr>(word: Option<&str>) -> anyhow::Result<T>
+pub(crate) fn parsed<T: FromStr>(word: Option<&str>) -> anyhow::Result<T>
 where
     T::Err: Error,
 {
@@ -43,12 +43,12 @@ impl FromStr for Line {
     fn from_str(text: &str) -> anyhow::Result<Line> {
         let mut words = text.split_whitespace();
         Ok(Line {
-            table: next(words.next())?,
-            target: next(words.next())?,
-            lower: next(words.next())?,
-            upper: next(words.next())?,
-            name_length: next(words.next())?,
-            name_offset: next(words.next())?,
+            table: parsed(words.next())?,
+            target: parsed(words.next())?,
+            lower: parsed(words.next())?,
+            upper: parsed(words.next())?,
+            name_length: parsed(words.next())?,
+            name_offset: parsed(words.next())?,
         })
     }
 }
@@ -72,12 +72,12 @@ impl Draft {
         let mut words = parts.next().unwrap_or("").split_whitespace();
         Ok(Draft {
             lines: parts.map(|part| part.parse::<Line>()).try_collect(heap)?,
-            length: next(words.next())?,
-            stated: next(words.next())?,
-            rows: next(words.next())?,
-            rows_at: next(words.next())?,
-            names_length: next(words.next())?,
-            names_at: next(words.next())?,
+            length: parsed(words.next())?,
+            stated: parsed(words.next())?,
+            rows: parsed(words.next())?,
+            rows_at: parsed(words.next())?,
+            names_length: parsed(words.next())?,
+            names_at: parsed(words.next())?,
             names: String::from_str(heap, words.next().unwrap_or(""))?,
         })
     }

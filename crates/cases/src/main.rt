@@ -11,32 +11,32 @@
 mod draft;
 
 use anyhow::anyhow;
-use draft::{Draft, next};
+use draft::{Draft, parsed};
 use sheet::{Sheet, read};
 use std::alloc::Global;
 use tolerance::{deviation, is_outside, limit};
 
 fn limit_case(heap: Global, text: &str) -> anyhow::Result<String> {
     let mut words = text.split_whitespace();
-    let number = next(words.next())?;
-    let target = next(words.next())?;
-    let lower = next(words.next())?;
-    let upper = next(words.next())?;
+    let number = parsed(words.next())?;
+    let target = parsed(words.next())?;
+    let lower = parsed(words.next())?;
+    let upper = parsed(words.next())?;
     Ok(limit(number, target, lower, upper).to_string(heap)?)
 }
 
 fn deviation_case(heap: Global, text: &str) -> anyhow::Result<String> {
     let mut words = text.split_whitespace();
-    let value = next(words.next())?;
-    let target = next(words.next())?;
+    let value = parsed(words.next())?;
+    let target = parsed(words.next())?;
     Ok(deviation(value, target).to_string(heap)?)
 }
 
 fn outside_case(heap: Global, text: &str) -> anyhow::Result<String> {
     let mut words = text.split_whitespace();
-    let k = next(words.next())?;
-    let deviation = next(words.next())?;
-    let limit = next(words.next())?;
+    let k = parsed(words.next())?;
+    let deviation = parsed(words.next())?;
+    let limit = parsed(words.next())?;
     Ok(is_outside(k, deviation, limit).to_string(heap)?)
 }
 
@@ -44,7 +44,7 @@ fn outside_case(heap: Global, text: &str) -> anyhow::Result<String> {
 fn names(heap: Global, sheet: &Sheet) -> anyhow::Result<String> {
     let mut text = String::from_str(heap, "accepted")?;
     for name in (0..sheet.row_count()).filter_map(|row| sheet.name(row)) {
-        let label = std::str::from_utf8(name.bytes)?;
+        let label = name.text();
         let place = name.place;
         text.push_str(format!(in heap; " {label} at {place}")?.as_str())?;
     }

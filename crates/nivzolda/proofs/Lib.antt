@@ -1,2 +1,4 @@
-pub mod JudgedSteps
+pub mod InsertSteps
+pub mod RowsMeant
 pub mod SeriesOver
+pub mod TwoDigits

@@ -1,12 +1,13 @@
 -- Which row of the sheet an argument means.
 -- Assumes nothing.
-use Rattle.std.specs.Prelude.{ℕ, Bool, cond, ◌&&◌, List, [], ◌∷◌, Some, None, Option, find, option_and_then, ◌==◌, nat_lt}
+use Rattle.std.specs.Prelude.{ℕ, Bool, cond, ◌&&◌, List, [], ◌∷◌, Some, None, Option, find, option_map, option_and_then, ◌==◌, nat_lt}
 use Rattle.std.specs.List.{range_with_len}
 use Rattle.std.specs.Str.{bytes_eq}
 use Rattle.text.specs.Numbers.{number_in}
+use Rattle.sheet.specs.declared.rows.Row.{Row}
 use Rattle.sheet.specs.Header.{header_of}
 use Rattle.sheet.specs.Names.{name_of}
-use Rattle.sheet.specs.Reader.{row_count}
+use Rattle.sheet.specs.Reader.{row_count, row_of}
 
 -- there is a row k, and it has that name
 abbrev pub is_named : List ℕ → List ℕ → ℕ → Bool
@@ -24,3 +25,7 @@ row_numbered s digits = option_and_then (λ k. cond (nat_lt k (row_count s)) (So
 abbrev pub row_meant : List ℕ → List ℕ → Option ℕ
 row_meant s [] = row_named s []
 row_meant s (b ∷ bs) = cond (b == 64) (row_numbered s bs) (row_named s (b ∷ bs))
+
+-- what the sheet says in that row
+abbrev pub assay_row : List ℕ → List ℕ → Option Row
+assay_row s assay = option_map (row_of s) (row_meant s assay)

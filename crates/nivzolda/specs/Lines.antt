@@ -1,6 +1,7 @@
 -- What the program's lines hold.
 -- Assumes nothing.
-use Rattle.std.specs.Prelude.{ℕ, ◌/◌, ◌%◌, List, [], ◌∷◌, ◌++◌, codes, decimal}
+use Rattle.std.specs.Prelude.{ℕ, ◌/◌, ◌%◌, List, ◌++◌, codes, decimal}
+use Rattle.std.specs.List.{flat_map, zip}
 use Rattle.sheet.specs.declared.rows.Row.{Row}
 use Rattle.rulebook.specs.declared.verdict.Verdict.{Verdict}
 use Rattle.rulebook.specs.Verdicts.{verdict_word}
@@ -38,7 +39,6 @@ row_line number label row place = row_start number label row ++ row_end row plac
 abbrev pub judged_line : ℕ → Verdict → List ℕ
 judged_line value verdict = two_decimals value ++ (codes " " ++ (verdict_word verdict ++ codes "\n"))
 
+-- such a line for each value, with the verdict beside it
 abbrev pub judged_lines : List ℕ → List Verdict → List ℕ
-judged_lines [] verdicts = []
-judged_lines (value ∷ values) [] = []
-judged_lines (value ∷ values) (verdict ∷ verdicts) = judged_line value verdict ++ judged_lines values verdicts
+judged_lines values verdicts = flat_map (λ pair. judged_line pair.0 pair.1) (zip values verdicts)

@@ -1,9 +1,10 @@
 // Which row of the sheet an argument means: a name of the sheet, or `@` and a row number.
-ghost use Rattle.std.specs.Prelude.{◌≡◌, ◌<◌, IfSome};
-ghost use Rattle.sheet.specs.Reader.{sheet_bytes, row_count};
-ghost use Rattle.nivzolda.specs.Assays.{is_named, row_named, row_numbered, row_meant};
+ghost use Rattle.std.specs.Prelude.{◌≡◌, IfSome};
+ghost use Rattle.sheet.specs.Reader.{sheet_bytes};
+ghost use Rattle.sheet.specs.Rows.{RowInRange};
+ghost use Rattle.nivzolda.specs.Assays.{is_named, row_named, row_numbered, row_meant, assay_row};
 
-use sheet::Sheet;
+use sheet::{Row, Sheet};
 use text::number;
 
 // Whether there is a row of that number, and it has that name.
@@ -14,26 +15,32 @@ fn is_named(sheet: &Sheet, name: &[u8], row: u32) -> bool
 }
 
 fn row_named(sheet: &Sheet, name: &[u8]) -> Option<u32>
-    ensures row { result ≡ row_named (sheet_bytes sheet.now) name.now }
-    ensures there { IfSome result (λ k. k < row_count (sheet_bytes sheet.now)) }
+    ensures { result ≡ row_named (sheet_bytes sheet.now) name.now }
 {
     (0..sheet.row_count()).find(|row| is_named(sheet, name, *row))
 }
 
 fn row_numbered(sheet: &Sheet, digits: &[u8]) -> Option<u32>
-    ensures row { result ≡ row_numbered (sheet_bytes sheet.now) digits.now }
-    ensures there { IfSome result (λ k. k < row_count (sheet_bytes sheet.now)) }
+    ensures { result ≡ row_numbered (sheet_bytes sheet.now) digits.now }
 {
     let row = number(digits)?;
     (row < sheet.row_count()).then_some(row)
 }
 
-pub(crate) fn row_meant(sheet: &Sheet, assay: &[u8]) -> Option<u32>
-    ensures row { result ≡ row_meant (sheet_bytes sheet.now) assay.now }
-    ensures there { IfSome result (λ k. k < row_count (sheet_bytes sheet.now)) }
+fn row_meant(sheet: &Sheet, assay: &[u8]) -> Option<u32>
+    ensures { result ≡ row_meant (sheet_bytes sheet.now) assay.now }
 {
     match assay {
         [b'@', digits @ ..] => row_numbered(sheet, digits),
         _ => row_named(sheet, assay),
     }
+}
+
+// The row that an argument means.
+#[tactic(auto, using(crate::proofs::RowsMeant::row_is_there))]
+pub(crate) fn assay_row(sheet: &Sheet, assay: &[u8]) -> Option<Row>
+    ensures row { result ≡ assay_row (sheet_bytes sheet.now) assay.now }
+    ensures range { IfSome result RowInRange }
+{
+    sheet.row(row_meant(sheet, assay)?)
 }

@@ -34,7 +34,7 @@ pub(crate) fn verdicts<B: Rulebook>(
     target: Value,
     values: &[Value],
 ) -> Result<Vec<Verdict>, AllocError>
-    ensures { IfOk result (λ v. v.items ≡ verdicts_of (B.Rulebook.meaning rules.old) limit target values.now) }
+    ensures { IfOk result (λ v. v.items ≡ verdicts_of (B.meaning rules.old) limit target values.now) }
 {
     let window = deviations(heap, target, values)?;
     let mut verdicts = vec![in heap; Verdict::Fit; window.len()]?;

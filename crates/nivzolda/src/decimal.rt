@@ -10,10 +10,10 @@ pub struct Hundredths(pub u32);
 impl fmt::Display for Hundredths {
     ghost output = { λ x. Some (two_decimals x.0) };
 
+    #[tactic(auto, using(crate::proofs::TwoDigits::two_digits))]
     fn fmt<W: fmt::Write>(&self, f: &mut fmt::Formatter<W>) -> fmt::Result {
         let whole = self.0 / 100;
-        let tenths = self.0 / 10 % 10;
-        let rest = self.0 % 10;
-        write!(f, "{whole}.{tenths}{rest}")
+        let rest = self.0 % 100;
+        write!(f, "{whole}.{rest:02}")
     }
 }

@@ -1,10 +1,13 @@
 // What the program says of a package insert.
 ghost use Rattle.std.specs.Prelude.{◌≡◌, IfOk, Some, string_bytes};
 ghost use Rattle.sheet.specs.Refusals.{told, refusal_words};
+ghost use Rattle.sheet.specs.Reader.{sheet_bytes};
+ghost use Rattle.nivzolda.specs.Inserts.{accepted_text};
 ghost use Rattle.nivzolda.specs.Lines.{refused_line, row_line};
+ghost use Rattle.nivzolda.specs.Reports.{Reports};
 
 use crate::decimal::Hundredths;
-use sheet::{Name, Refusal, Row, Sheet, read};
+use sheet::{Refusal, Row, Sheet, read};
 use std::alloc::{AllocError, Global};
 use std::fmt;
 
@@ -15,14 +18,6 @@ pub(crate) fn refused_line(heap: Global, refusal: &Refusal) -> Result<String, Al
     let number = refusal.number();
     let row = refusal.row();
     format!(in heap; "refused {number} at row {row}: {refusal}\n")
-}
-
-// The bytes of a name as text: they are letters and digits.
-fn label(heap: Global, name: Name) -> Result<String, AllocError> {
-    name.bytes
-        .iter()
-        .map(|byte| char::from(*byte))
-        .collect(heap)
 }
 
 // The line for a row of the sheet.
@@ -55,16 +50,17 @@ impl fmt::Display for RowLine<'_> {
     }
 }
 
-fn accepted(heap: Global, sheet: &Sheet) -> Result<String, AllocError> {
+fn accepted(heap: Global, sheet: &Sheet) -> Result<String, AllocError>
+    ensures { IfOk result (λ t. string_bytes t ≡ accepted_text (sheet_bytes sheet.now)) }
+{
     let rows = sheet.row_count();
     let mut text = format!(in heap; "accepted, {rows} rows\n")?;
     // by number, which is printed, and by which a sheet hands out a row and a name
     for number in 0..rows {
         let name = sheet.name(number).unwrap();
-        let label = label(heap, name)?;
         let line = RowLine {
             number,
-            label: label.as_str(),
+            label: name.text(),
             row: sheet.row(number).unwrap(),
             place: name.place,
         };
@@ -73,7 +69,10 @@ fn accepted(heap: Global, sheet: &Sheet) -> Result<String, AllocError> {
     Ok(text)
 }
 
-pub(crate) fn report(heap: Global, bytes: &[u8]) -> Result<String, AllocError> {
+// What the program prints: what is in the sheet, or why it is refused.
+pub(crate) fn report(heap: Global, bytes: &[u8]) -> Result<String, AllocError>
+    ensures { IfOk result (λ t. Reports bytes.now (accepted_text bytes.now) (string_bytes t)) }
+{
     match read(bytes) {
         Ok(sheet) => accepted(heap, &sheet),
         Err(refusal) => refused_line(heap, &refusal),

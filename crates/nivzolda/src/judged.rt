@@ -1,16 +1,15 @@
 // What the program says of a series of control values.
-ghost use Rattle.std.specs.Prelude.{◌≡◌, ◌≤◌, IfOk, None, string_bytes};
-ghost use Rattle.sheet.specs.Acceptance.{refusal_of};
-ghost use Rattle.sheet.specs.Reader.{sheet_bytes};
+ghost use Rattle.std.specs.Prelude.{◌≡◌, IfOk, string_bytes};
 ghost use Rattle.nivzolda.specs.Lines.{judged_lines};
-ghost use Rattle.nivzolda.specs.Judged.{judged_row, no_such_row, judged_assay};
+ghost use Rattle.nivzolda.specs.Judged.{no_such_row, judged_assay};
+ghost use Rattle.nivzolda.specs.Reports.{Reports};
 
-use crate::assays::row_meant;
+use crate::assays::assay_row;
 use crate::control_series::verdicts;
 use crate::insert::refused_line;
 use crate::value::Value;
 use rulebook::{Rulebook, Verdict};
-use sheet::{Row, Sheet, read};
+use sheet::read;
 use std::alloc::{AllocError, Global};
 
 // A line for each value with its verdict.
@@ -24,41 +23,10 @@ fn judged_lines(heap: Global, values: &[Value], verdicts: &[Verdict]) -> Result<
     Ok(text)
 }
 
-// The verdicts of the values by those rules, for one row of a sheet.
-fn judged_row<B: Rulebook>(
-    heap: Global,
-    rules: &mut B,
-    row: Row,
-    values: &[Value],
-) -> Result<String, AllocError>
-    requires { row.target ≤ 99999 }
-    ensures { IfOk result (λ t. string_bytes t ≡ judged_row (B.Rulebook.meaning rules.old) row values.now) }
-{
-    let target = Value::new(row.target).unwrap();
-    let verdicts = verdicts(heap, rules, row.limit, target, values)?;
-    judged_lines(heap, values, &verdicts)
-}
-
 fn no_such_row(heap: Global) -> Result<String, AllocError>
     ensures { IfOk result (λ t. string_bytes t ≡ no_such_row) }
 {
     String::from_str(heap, "refused 8: no such row\n")
-}
-
-// The same for the assay that an argument means.
-fn judged_assay<B: Rulebook>(
-    heap: Global,
-    sheet: &Sheet,
-    assay: &[u8],
-    rules: &mut B,
-    values: &[Value],
-) -> Result<String, AllocError>
-    ensures { IfOk result (λ t. string_bytes t ≡ judged_assay (sheet_bytes sheet.now) assay.now (B.Rulebook.meaning rules.old) values.now) }
-{
-    match row_meant(sheet, assay) {
-        Some(number) => judged_row(heap, rules, sheet.row(number).unwrap(), values),
-        None => no_such_row(heap),
-    }
 }
 
 // What the program prints: the verdicts, or why there are none.
@@ -69,12 +37,18 @@ pub(crate) fn report<B: Rulebook>(
     rules: &mut B,
     values: &[Value],
 ) -> Result<String, AllocError>
-    ensures { IfOk result (λ t. refusal_of bytes.now ≡ None → string_bytes t ≡ judged_assay bytes.now assay.now (B.Rulebook.meaning rules.old) values.now) }
+    ensures { IfOk result (λ t. Reports bytes.now (judged_assay bytes.now assay.now (B.meaning rules.old) values.now) (string_bytes t)) }
 {
-    match read(bytes) {
-        Ok(sheet) => judged_assay(heap, &sheet, assay, rules, values),
-        Err(refusal) => refused_line(heap, &refusal),
-    }
+    let sheet = match read(bytes) {
+        Ok(sheet) => sheet,
+        Err(refusal) => return refused_line(heap, &refusal),
+    };
+    let Some(row) = assay_row(&sheet, assay) else {
+        return no_such_row(heap);
+    };
+    let target = Value::new(row.target).unwrap();
+    let verdicts = verdicts(heap, rules, row.limit, target, values)?;
+    judged_lines(heap, values, &verdicts)
 }
 
 #[cfg(test)]

@@ -27,7 +27,8 @@ example: nivzolda sheet insert.bin
 example: nivzolda judge insert.bin K swiss+side:8:1+drift:6:2 4.02 4.13
 ";
 
-// The bytes of a file, or a word on standard error.
+// The bytes of a file, or a word on standard error. It is told where it is found, in words for the person who typed it:
+// `main` only sets the status.
 fn file(rt: &HostRuntime, path: &str) -> anyhow::Result<Vec<u8>> {
     match fs::read(rt, path) {
         Ok(bytes) => Ok(bytes),
@@ -82,12 +83,12 @@ fn run(rt: &HostRuntime) -> anyhow::Result<()> {
         ("help", _) => help(rt),
         ("sheet", [path]) => sheet(rt, path.as_str()),
         ("sheet", _) => wrong_call(rt, "sheet takes one file"),
-        ("judge", [path, assay, rules, _, ..]) => judge(
+        ("judge", [path, assay, rules, words @ ..]) if !words.is_empty() => judge(
             rt,
             path.as_str(),
             assay.as_str(),
             rules.as_str(),
-            &rest[3..],
+            words,
         ),
         ("judge", _) => wrong_call(rt, "judge takes a file, an assay, rules and values"),
         _ => wrong_call(rt, "there is no such command"),

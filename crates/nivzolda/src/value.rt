@@ -1,6 +1,6 @@
 // A value of a control, in hundredths of the assay's unit: from 0 to 99,999.
 ghost use Rattle.std.specs.Prelude.{◌≡◌, ◌≤◌, Some};
-ghost use Rattle.nivzolda.specs.Values.{value_of, ReadsValue};
+ghost use Rattle.nivzolda.specs.Values.{value_of, ReadsValue, no_value_words};
 ghost use Rattle.nivzolda.specs.Lines.{two_decimals};
 
 use crate::decimal::Hundredths;
@@ -60,6 +60,8 @@ impl fmt::Display for Value {
 pub(crate) struct NoValue;
 
 impl fmt::Display for NoValue {
+    ghost output = { λ x. Some no_value_words };
+
     fn fmt<W: fmt::Write>(&self, f: &mut fmt::Formatter<W>) -> fmt::Result {
         f.write_str("no value from 0 to 999.99 with at most two decimals")
     }

@@ -1,1 +1,2 @@
+pub mod KindSteps
 pub mod PileSteps

@@ -1,7 +1,7 @@
 -- A pile of layers on a base: never milder than it, and the same whether its layers are asked one below the other or raise
 -- the verdict one after the other.
 -- Assumes nothing.
-use Rattle.std.proofs.Common.{◌≡◌, ℕ, List, [], ◌∷◌, ℤ, refl, ap, arith}
+use Rattle.std.proofs.Common.{◌≡◌, ℕ, List, [], ◌∷◌, ◌++◌, ℤ, refl, ap, arith}
 use Rattle.std.proofs.lemmas.Bool.Decides.{nat_tests}
 use Rattle.rulebook.specs.declared.house_rule.HouseRule.{HouseRule}
 use Rattle.rulebook.specs.HouseRules.{raised_by}
@@ -29,3 +29,8 @@ piled_one_by_one (c ∷ cs) m unit window = piled_one_by_one cs (chosen_layer c 
 pub piled_same : (layers : List (HouseRule LayerKind)) (m n : Meaning) (unit : ℕ) (window : List ℤ) → m unit window ≡ n unit window → piled layers m unit window ≡ piled layers n unit window
 piled_same [] m n unit window e = e
 piled_same (c ∷ cs) m n unit window e = piled_same cs (chosen_layer c m) (chosen_layer c n) unit window (ap (raised_by condition_of_kind c window) e)
+
+-- one layer more, on top
+pub one_on_top : (layers : List (HouseRule LayerKind)) (c : HouseRule LayerKind) (m : Meaning) → piled (layers ++ (c ∷ [])) m ≡ chosen_layer c (piled layers m)
+one_on_top [] c m = refl
+one_on_top (d ∷ ds) c m = one_on_top ds c (chosen_layer d m)

@@ -23,7 +23,10 @@ abbrev pub layer_of_kind : LayerKind → ℕ → ℕ → Meaning → Meaning
 layer_of_kind Side = side_layer
 layer_of_kind Drift = drift_layer
 
--- the layer that is made of a kind, a k and a level is the static one
-pub chosen_layer-house_rule : (kind : LayerKind) (k level : ℕ) → chosen_layer (house_rule kind k level) ≡ layer_of_kind kind k level
-chosen_layer-house_rule Side k level = refl
-chosen_layer-house_rule Drift k level = refl
+same_layer : (kind : LayerKind) (k level : ℕ) → chosen_layer (house_rule kind k level) ≡ layer_of_kind kind k level
+same_layer Side k level = refl
+same_layer Drift k level = refl
+
+-- it means what the static layer of its kind means, by its k and level as they were given
+pub chosen_layer-layer_of_kind : (layer : HouseRule LayerKind) → chosen_layer layer ≡ layer_of_kind layer.condition layer.k layer.level
+chosen_layer-layer_of_kind layer = same_layer layer.condition layer.k layer.level

@@ -2,6 +2,7 @@
 -- Assumes nothing.
 use Rattle.std.specs.Prelude.{List, [], ◌∷◌}
 use Rattle.rulebook.specs.declared.house_rule.HouseRule.{HouseRule}
+use Rattle.rulebook.specs.HouseRules.{counted_level}
 use Rattle.rulebook.specs.Lawful.{Lawful}
 use Rattle.rulebook.specs.LayersLawful.{layered_lawful}
 use Rattle.rulebook.specs.Meanings.{Meaning}
@@ -11,4 +12,4 @@ use Rattle.pile.specs.Piles.{piled}
 
 pub piled_lawful : (layers : List (HouseRule LayerKind)) (m : Meaning) → Lawful m → Lawful (piled layers m)
 piled_lawful [] m l = l
-piled_lawful (c ∷ cs) m l = piled_lawful cs (chosen_layer c m) (layered_lawful (condition_of_kind c.condition) c.k c.level m l)
+piled_lawful (c ∷ cs) m l = piled_lawful cs (chosen_layer c m) (layered_lawful (condition_of_kind c.condition) c.k (counted_level c.level) m l)

@@ -5,7 +5,7 @@ ghost use Rattle.pile.specs.Choices.{condition_of_kind};
 use rulebook::{Condition, Drift, HouseRule, Side};
 
 // Which condition the layer looks for.
-#[derive(Clone, Copy)]
+#[derive(Clone, Copy, Debug, PartialEq, Eq)]
 pub enum LayerKind {
     Side,
     Drift,
@@ -22,5 +22,5 @@ impl Condition for LayerKind {
     }
 }
 
-// A kind with its k and its level, made by `LayerChoice::new`.
+// A kind with its k and its level, as they were given.
 pub type LayerChoice = HouseRule<LayerKind>;

@@ -59,8 +59,8 @@ fn answer(heap: Global, line: &str) -> anyhow::Result<String> {
     }
 }
 
-// `cases` has this loop too. It only prints: a crate for it would promise nothing, and a closure that it takes would need a
-// `requires`, which no public function has.
+// `cases` has this loop too: a crate for it would have a public function, which owes a contract that pins what it does, and
+// of what is printed none can be stated.
 fn run(rt: &HostRuntime) -> anyhow::Result<()> {
     for line in rt.lines(rt.alloc()) {
         let line = line?;

@@ -6,10 +6,15 @@ use Rattle.std.proofs.lemmas.List.{take-take, length-take}
 use Rattle.std.proofs.lemmas.Bool.Decides.{nat_tests}
 use Rattle.rulebook.specs.declared.verdict.Verdict.{Verdict}
 use Rattle.rulebook.specs.declared.verdict.Verdict.TheVariants.{Alarm}
+use Rattle.rulebook.specs.Verdicts.{higher}
 use Rattle.rulebook.specs.Meanings.{Meaning}
 use Rattle.rulebook.specs.Lawful.{Lawful}
 use Rattle.rulebook.specs.HouseRules.{counted_k, holds_of_newest, raised}
 use Rattle.rulebook.specs.Layers.{layered}
+
+-- nothing is higher than an alarm
+higher_alarm : (level : Verdict) → higher level Alarm ≡ Alarm
+higher_alarm level = grind (arith, nat_tests)
 
 module _ (condition : List ℤ → Bool) (k : ℕ) (level : Verdict) where
   -- a k counts as at most 12, so that what stands behind the newest twelve is not looked at
@@ -19,7 +24,6 @@ module _ (condition : List ℤ → Bool) (k : ℕ) (level : Verdict) where
       let enough : nat_le (counted_k k) (length (take 12 window)) ≡ nat_le (counted_k k) (length window) = simp length-take (grind (arith, nat_tests)) in
       rw (take-take (counted_k k) 12 window bound, enough)
 
-  -- nothing is higher than an alarm
   alarm_stays : (window : List ℤ) → raised condition k level window Alarm ≡ Alarm
   alarm_stays window = grind (arith, nat_tests)
 

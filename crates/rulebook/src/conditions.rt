@@ -24,6 +24,7 @@ impl Condition for Side {
     }
 }
 
+// Each chain has a function of its own: of two in one function, joined by `||`, the proof stays open.
 fn are_above(newest: &[i32]) -> bool
     ensures { result ≡ list_all is_positive newest.now }
 {

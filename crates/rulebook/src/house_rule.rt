@@ -5,12 +5,13 @@ ghost use Rattle.rulebook.specs.HouseRules.{counted_k, counted_level, holds_of_n
 use crate::conditions::Condition;
 use crate::verdict::Verdict;
 
-// A condition with its k and its level. The k is kept as it was given, and counts as `counted_k` says.
+// A condition with its k and its level, as they were given: callers may give any numbers, and a narrower type would ask more of
+// them. They count as `counted_k` and `counted_level` say.
 #[derive(Clone, Copy)]
 pub struct HouseRule<C> {
-    condition: C,
-    k: u32,
-    level: Verdict,
+    pub condition: C,
+    pub k: u32,
+    pub level: u32,
 }
 
 // A k below 5 counts as 5, above 12 as 12.
@@ -20,7 +21,7 @@ fn counted_k(k: u32) -> usize
     k.clamp(5, 12) as usize
 }
 
-// A level is 1 or 2; any other number counts as 1: callers may pass any, and a narrower type would ask more of them.
+// A level is 1 or 2; any other number counts as 1.
 fn counted_level(level: u32) -> Verdict
     ensures { result ≡ counted_level level }
 {
@@ -46,7 +47,7 @@ impl<C: Condition> HouseRule<C> {
         HouseRule {
             condition,
             k,
-            level: counted_level(level),
+            level,
         }
     }
 
@@ -55,7 +56,7 @@ impl<C: Condition> HouseRule<C> {
         ensures { result ≡ raised_by C.found self.now window.now below }
     {
         if holds_of_newest(&self.condition, counted_k(self.k), window) {
-            self.level.higher(below)
+            counted_level(self.level).higher(below)
         } else {
             below
         }

@@ -24,7 +24,7 @@ pub type DriftLayer<B> = Layer<Drift, B>;
 impl<C: Condition, B: Rulebook> Rulebook for Layer<C, B> {
     ghost meaning = { layer_meaning C.found B.meaning };
 
-    ghost lawful = { λ b. layered_lawful (C.found b.rule.condition) b.rule.k b.rule.level (B.meaning b.below) (B.lawful b.below) };
+    ghost lawful = { λ b. layered_lawful (C.found b.rule.condition) b.rule.k (counted_level b.rule.level) (B.meaning b.below) (B.lawful b.below) };
 
     fn judge(&mut self, unit: u32, window: &[i32]) -> Verdict {
         let below = self.below.judge(unit, window);
@@ -33,15 +33,12 @@ impl<C: Condition, B: Rulebook> Rulebook for Layer<C, B> {
 }
 
 impl<C: Condition, B: Rulebook> Layer<C, B> {
-    // A layer with a condition, a k and a level. It means the rule over what lies below, and is never milder than that.
-    pub fn new(condition: C, k: u32, level: u32, below: B) -> Layer<C, B>
-        ensures meaning { ⟦<Layer<C, B> as Rulebook>⟧.meaning result ≡ layered (C.found condition) k (counted_level level) (B.meaning below) }
+    // A house rule laid on a rulebook. It means the rule over what lies below, and is never milder than that.
+    pub fn new(rule: HouseRule<C>, below: B) -> Layer<C, B>
+        ensures meaning { ⟦<Layer<C, B> as Rulebook>⟧.meaning result ≡ layered (C.found rule.condition) rule.k (counted_level rule.level) (B.meaning below) }
         ensures never_milder { LiesOn (⟦<Layer<C, B> as Rulebook>⟧.meaning result) (B.meaning below) }
     {
-        Layer {
-            rule: HouseRule::new(condition, k, level),
-            below,
-        }
+        Layer { rule, below }
     }
 
     // The rulebook below. The layer is never milder than it.
@@ -58,7 +55,7 @@ pub fn side_layer<B: Rulebook>(k: u32, level: u32, below: B) -> SideLayer<B>
     ensures meaning { ⟦<SideLayer<B> as Rulebook>⟧.meaning result ≡ side_layer k level (B.meaning below) }
     ensures never_milder { LiesOn (⟦<SideLayer<B> as Rulebook>⟧.meaning result) (B.meaning below) }
 {
-    Layer::new(Side, k, level, below)
+    Layer::new(HouseRule::new(Side, k, level), below)
 }
 
 // The drift layer: when the newest k deviations, from oldest to newest, rise strictly or fall strictly.
@@ -66,5 +63,5 @@ pub fn drift_layer<B: Rulebook>(k: u32, level: u32, below: B) -> DriftLayer<B>
     ensures meaning { ⟦<DriftLayer<B> as Rulebook>⟧.meaning result ≡ drift_layer k level (B.meaning below) }
     ensures never_milder { LiesOn (⟦<DriftLayer<B> as Rulebook>⟧.meaning result) (B.meaning below) }
 {
-    Layer::new(Drift, k, level, below)
+    Layer::new(HouseRule::new(Drift, k, level), below)
 }

@@ -27,7 +27,8 @@ pub fn judge_series<B: Rulebook>(
     ensures verdicts { verdicts.new ≡ over (series (B.meaning rulebook.old) unit deviations.now) verdicts.old }
     ensures same { SameMeaning (B.meaning rulebook.old) (B.meaning rulebook.new) }
 {
-    // by place, since each control is judged by the deviations from its place on
+    // by place, since each control is judged by the deviations from its place on; over `iter().enumerate().rev()` the proof
+    // stays open, and lent slices are what a caller without a heap has
     for place in (0..deviations.len()).rev() {
         // read, since only then does a proof know that a signed number of a slice has 32 bits
         let _deviation = deviations[place];

@@ -1,6 +1,6 @@
 -- The loop over the numbers from 0 up to n that returns at the first one at which something is found.
 -- Assumes nothing.
-use Rattle.std.proofs.Common.{◌≡◌, ℕ, zero, suc, ◌+◌, ◌<◌, Some, None, Option, refl, sym, subst, inl, inr, add-one, arith}
+use Rattle.std.proofs.Common.{◌≡◌, ℕ, zero, suc, ◌<◌, Some, None, Option, refl, sym, subst, inl, inr, arith}
 use Rattle.std.proofs.lemmas.Bool.{cases_eq}
 use Rattle.std.specs.Option.{option_or}
 use Rattle.sheet.specs.Below.{first_below}
@@ -11,9 +11,6 @@ option_or_none None b h = (refl, h)
 option_or_none (Some x) b h = cc
 
 module _ {X : Type 0} (find : ℕ → Option X) where
-  pub first_more : (i : ℕ) → first_below find i ≡ None → find i ≡ None → first_below find (i + 1) ≡ None
-  first_more i h t = rw (add-one, h, t)
-
   pub first_found : (i n : ℕ) (x : X) → i < n → first_below find i ≡ None → find i ≡ Some x → first_below find n ≡ Some x
   first_found i zero x h b t = absurd (omega arith)
   first_found i (suc n) x h b t =

@@ -19,13 +19,13 @@ fn are_apart(a: &Range<usize>, b: &Range<usize>) -> bool
     a.end <= b.start || b.end <= a.start
 }
 
-// Blocks count from the sheet's first byte.
+// A block's start and end count from the sheet's first byte.
 impl Header {
     fn rows_block(self) -> Range<usize>
         ensures { result ≡ rows_block self }
     {
         let start = usize::from(self.rows_offset);
-        start..start + 21 * usize::from(self.row_count)
+        start..self.row_place(u32::from(self.row_count))
     }
 
     fn names_block(self) -> Range<usize>

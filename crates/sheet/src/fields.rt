@@ -17,7 +17,7 @@ pub(crate) struct Fields {
 }
 
 // The fields of the row at the front and the bytes after it; nothing where there are fewer than 21 bytes.
-// The project asks for this form: a pattern over the bytes that hands out the rest of them.
+// Kept in this form, which docs/DECISIONS.md lists: a pattern over the bytes that hands out the rest of them.
 #[tactic(auto, using(std::proofs::lemmas::List::take_rest), unfolding(crate::specs::Fields::fields_of))]
 pub(crate) fn split_fields(bytes: &[u8]) -> Option<(Fields, &[u8])>
     ensures { MatchOption result (length bytes.now < 21) (λ x. (21 ≤ length bytes.now) × (x.0 ≡ fields_of bytes.now) × (x.1.now ≡ drop 21 bytes.now)) }

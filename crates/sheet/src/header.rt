@@ -13,7 +13,7 @@ pub(crate) struct Header {
 }
 
 // The header and the bytes after it; nothing where there are fewer than ten bytes.
-// The project asks for this form: a pattern over the bytes that hands out the rest of them.
+// Kept in this form, which docs/DECISIONS.md lists: a pattern over the bytes that hands out the rest of them.
 #[tactic(auto, using(std::proofs::lemmas::List::take_rest), unfolding(crate::specs::Header::header_of))]
 pub(crate) fn split_header(bytes: &[u8]) -> Option<(Header, &[u8])>
     ensures { MatchOption result (length bytes.now < 10) (λ x. (10 ≤ length bytes.now) × (x.0 ≡ header_of bytes.now) × (x.1.now ≡ drop 10 bytes.now)) }

@@ -4,7 +4,7 @@ ghost use Rattle.sheet.specs.Acceptance.{refusal_of};
 
 use crate::fields::Fields;
 use crate::layout::Layout;
-use crate::rows::{Name, Row, row_from};
+use crate::rows::{Name, Row};
 
 // A sheet that was accepted. It borrows the bytes.
 #[derive(Clone, Copy)]
@@ -24,7 +24,7 @@ impl<'a> Sheet<'a> {
     }
 
     // The fields of the row of that number.
-    #[tactic(auto, using(crate::proofs::Accepted::range_accepted))]
+    #[tactic(auto, using(crate::proofs::Accepted::row_accepted))]
     fn find(&self, row: u32) -> Option<Fields>
         ensures fields { HandsOut RightFields self.now row result }
         ensures range { IfSome result InRange }
@@ -40,10 +40,11 @@ impl<'a> Sheet<'a> {
         ensures row { HandsOut RightRow self.now row result }
         ensures range { IfSome result RowInRange }
     {
-        Some(row_from(self.find(row)?))
+        Some(self.find(row)?.to_row())
     }
 
     // The name of the row of that number, as a part of the sheet.
+    #[tactic(auto, using(crate::proofs::Accepted::row_accepted))]
     pub fn name(&self, row: u32) -> Option<Name<'a>>
         ensures { HandsOut RightName self.now row result }
     {

@@ -24,7 +24,7 @@ pub enum Refusal {
 }
 
 impl Refusal {
-    // A match, since a case with a field has no number of its own to convert.
+    // A match: an enum's cases can state numbers of their own only where none has a field.
     pub fn number(&self) -> u32
         ensures { result ≡ (told self.now).0 }
     {

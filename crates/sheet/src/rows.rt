@@ -1,5 +1,6 @@
 // What a sheet hands out: a row with its limit, and a name with its place.
-ghost use Rattle.std.specs.Prelude.{◌≡◌};
+ghost use Rattle.std.specs.Prelude.{◌≡◌, false};
+ghost use Rattle.sheet.specs.Names.{has_other_byte};
 ghost use Rattle.sheet.specs.Rows.{InRange, RowInRange, row_from};
 
 use crate::fields::Fields;
@@ -17,26 +18,39 @@ pub struct Row {
     pub limit: u32,
 }
 
-// An assay's name: a part of the sheet, and where it starts, from the sheet's first byte.
+// An assay's name: a part of the sheet, of A to Z and 0 to 9, and where it starts, from the sheet's first byte.
 #[derive(Clone, Copy)]
 pub struct Name<'a> {
     pub place: usize,
     pub bytes: &'a [u8],
+    pub ghost no_other_byte: { has_other_byte bytes.now ≡ false },
 }
 
-// The row that the fields make. The limit of an assay whose ends enclose the target and lie in range fits 32 bits.
-#[tactic(auto, using(tolerance::proofs::LimitBound::limit_bounded))]
-pub(crate) fn row_from(fields: Fields) -> Row
-    requires { InRange fields }
-    ensures row { result ≡ row_from fields }
-    ensures range { RowInRange result }
-{
-    Row {
-        table: fields.table,
-        target: fields.target,
-        lower: fields.lower,
-        upper: fields.upper,
-        last_minute: fields.last_minute,
-        limit: limit(fields.table, fields.target, fields.lower, fields.upper) as u32,
+impl<'a> Name<'a> {
+    // The same bytes as text.
+    #[tactic(auto, using(crate::proofs::Text::name_is_text))]
+    pub fn text(&self) -> &'a str
+        ensures { result.now ≡ self.now.bytes.now }
+    {
+        std::str::from_utf8(self.bytes).unwrap()
+    }
+}
+
+impl Fields {
+    // The row that the fields make. The limit of an assay whose ends enclose the target and lie in range fits 32 bits.
+    #[tactic(auto, using(tolerance::proofs::LimitBound::limit_bounded))]
+    pub(crate) fn to_row(self) -> Row
+        requires { InRange self }
+        ensures row { result ≡ row_from self }
+        ensures range { RowInRange result }
+    {
+        Row {
+            table: self.table,
+            target: self.target,
+            lower: self.lower,
+            upper: self.upper,
+            last_minute: self.last_minute,
+            limit: limit(self.table, self.target, self.lower, self.upper) as u32,
+        }
     }
 }

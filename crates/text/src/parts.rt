@@ -12,14 +12,15 @@ pub fn split_once(separator: u8, text: &[u8]) -> Option<(&[u8], &[u8])>
     Some((&text[..end], &text[end + 1..]))
 }
 
-// A part of a text, and where its first byte stands in the text.
+// A part of a text, and where its first byte stands in the text. A name of a sheet has two such fields too; one type for
+// both would make the one crate stand on the other for nothing else.
 #[derive(Clone, Copy, Debug)]
 pub struct Part<'a> {
     pub place: usize,
     pub bytes: &'a [u8],
 }
 
-// The parts of a text, one after the other.
+// The parts of a text, one after the other. The library's `split` gives no places, and they are what a person is told.
 #[derive(Drop)]
 pub struct Parts<'a> {
     separator: u8,
