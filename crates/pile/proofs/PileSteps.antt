@@ -2,17 +2,17 @@
 -- the verdict one after the other.
 -- Assumes nothing.
 use Rattle.std.proofs.Common.{◌≡◌, ℕ, List, [], ◌∷◌, ◌++◌, ℤ, refl, ap, arith}
-use Rattle.std.proofs.lemmas.Bool.Decides.{nat_tests}
 use Rattle.rulebook.specs.declared.house_rule.HouseRule.{HouseRule}
-use Rattle.rulebook.specs.HouseRules.{raised_by}
+use Rattle.rulebook.specs.HouseRules.{counted_level, raised_by}
 use Rattle.rulebook.specs.Meanings.{Meaning, NeverMilder}
+use Rattle.rulebook.proofs.NeverMilder.{layered_never_milder}
 use Rattle.pile.specs.declared.choice.LayerKind.{LayerKind}
 use Rattle.pile.specs.Choices.{condition_of_kind, chosen_layer}
 use Rattle.pile.specs.Piles.{piled, raised_by_all}
 
 -- a layer never lowers a verdict
 layer_never_milder : (layer : HouseRule LayerKind) (m : Meaning) → NeverMilder (chosen_layer layer m) m
-layer_never_milder layer m unit window u w = grind (arith, nat_tests)
+layer_never_milder layer m = layered_never_milder (condition_of_kind layer.condition) layer.k (counted_level layer.level) m
 
 pub piled_never_milder : (layers : List (HouseRule LayerKind)) (m : Meaning) → NeverMilder (piled layers m) m
 piled_never_milder [] m unit window u w = omega arith

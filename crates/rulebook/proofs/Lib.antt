@@ -1,2 +1,3 @@
 pub mod Drifting
+pub mod NeverMilder
 pub mod SeriesSteps

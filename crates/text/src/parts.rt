@@ -12,8 +12,7 @@ pub fn split_once(separator: u8, text: &[u8]) -> Option<(&[u8], &[u8])>
     Some((&text[..end], &text[end + 1..]))
 }
 
-// A part of a text, and where its first byte stands in the text. A name of a sheet has two such fields too; one type for
-// both would make the one crate stand on the other for nothing else.
+// A part of a text, and where its first byte stands in the text.
 #[derive(Clone, Copy, Debug)]
 pub struct Part<'a> {
     pub place: usize,

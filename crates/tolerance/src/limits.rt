@@ -11,7 +11,8 @@ fn distance_to_nearer_end(target: u32, lower: u32, upper: u32) -> u32
     target.abs_diff(lower).min(target.abs_diff(upper))
 }
 
-// The limit in thousandths of a hundredth of the unit: the smaller of the table's tolerance and the range's.
+// The limit in thousandths of a hundredth of the unit: the smaller of the table's tolerance and the range's. Its four numbers
+// come one by one, as callers have them from different places; any will do.
 pub fn limit(number: u16, target: u32, lower: u32, upper: u32) -> u64
     ensures { result ≡ limit_of number target lower upper }
 {
