@@ -1,6 +1,6 @@
 -- A value of a control, in hundredths of the assay's unit, and how it is written.
 -- Assumes nothing.
-use Rattle.std.specs.Prelude.{◌≡◌, ℕ, cond, List, codes, Some, None, Ok, Err, Option, Result, option_and_then, nat_le}
+use Rattle.std.specs.Prelude.{ℕ, cond, List, codes, Some, None, Option, option_and_then, nat_le}
 use Rattle.text.specs.Numbers.{hundredths_in}
 
 -- a value goes from 0 to 99,999
@@ -10,11 +10,6 @@ value_of n = cond (nat_le n 99999) (Some n) None
 -- the value that a text says: a number with at most two decimals, in range
 abbrev pub value_in : List ℕ → Option ℕ
 value_in text = option_and_then value_of (hundredths_in text)
-
--- the text is read as that value, or has none
-abbrev pub ReadsValue : {E : Type 0} → List ℕ → Result ℕ E → Type 0
-ReadsValue text (Ok v) = value_in text ≡ Some v
-ReadsValue text (Err e) = value_in text ≡ None
 
 -- what is said of a word that says no value
 abbrev pub no_value_words : List ℕ

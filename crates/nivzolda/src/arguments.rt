@@ -28,8 +28,10 @@ pub(crate) fn values(rt: &HostRuntime, words: &[String]) -> anyhow::Result<Vec<V
 
 pub(crate) fn rules(rt: &HostRuntime, word: &str) -> anyhow::Result<Pile<Guideline>> {
     let read = read_rules(rt.alloc(), word.as_bytes());
-    if let Err(RulesError::Wrong { place, reason }) = read {
-        eprintln!(rt; "nivzolda: rules {word} at {place}: {reason}")?;
+    if let Err(error) = &read
+        && *error != RulesError::NoMemory
+    {
+        eprintln!(rt; "nivzolda: rules {word} {error}")?;
     }
     Ok(read?)
 }

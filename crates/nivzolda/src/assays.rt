@@ -36,7 +36,8 @@ fn row_meant(sheet: &Sheet, assay: &[u8]) -> Option<u32>
     }
 }
 
-// The row that an argument means.
+// The row that an argument means. It says again that the row is in range: as a fact of the type `Row` it would ask for a proof
+// wherever a definition writes a row.
 #[tactic(auto, using(crate::proofs::RowsMeant::row_is_there))]
 pub(crate) fn assay_row(sheet: &Sheet, assay: &[u8]) -> Option<Row>
     ensures row { result ≡ assay_row (sheet_bytes sheet.now) assay.now }

@@ -55,7 +55,7 @@ fn accepted(heap: Global, sheet: &Sheet) -> Result<String, AllocError>
 {
     let rows = sheet.row_count();
     let mut text = format!(in heap; "accepted, {rows} rows\n")?;
-    // by number, which is printed, and by which a sheet hands out a row and a name
+    // by number: it is printed, and a sheet hands out a row and a name by it, so that no chain is plainer
     for number in 0..rows {
         let name = sheet.name(number).unwrap();
         let line = RowLine {

@@ -46,7 +46,7 @@ pub(crate) fn report<B: Rulebook>(
     let Some(row) = assay_row(&sheet, assay) else {
         return no_such_row(heap);
     };
-    let target = Value::new(row.target).unwrap();
+    let target = Value::try_from(row.target).unwrap();
     let verdicts = verdicts(heap, rules, row.limit, target, values)?;
     judged_lines(heap, values, &verdicts)
 }
@@ -65,7 +65,7 @@ mod tests {
             .ok_or("no rules")?;
         let values: Vec<Value> = [402, 413, 387, 402, 401, 402, 403, 404, 405, 406, 401, 399]
             .iter()
-            .filter_map(|hundredths| Value::new(*hundredths))
+            .filter_map(|hundredths| Value::try_from(*hundredths).ok())
             .collect(rt.alloc())?;
         let text = report(rt.alloc(), K, b"K", &mut rules, &values)?;
         assert_eq!(rt;

@@ -1,6 +1,7 @@
 // A value of a control, in hundredths of the assay's unit: from 0 to 99,999.
 ghost use Rattle.std.specs.Prelude.{◌≡◌, ◌≤◌, Some};
-ghost use Rattle.nivzolda.specs.Values.{value_of, ReadsValue, no_value_words};
+ghost use Rattle.std.specs.Result.{result_ok};
+ghost use Rattle.nivzolda.specs.Values.{value_of, value_in, no_value_words};
 ghost use Rattle.nivzolda.specs.Lines.{two_decimals};
 
 use crate::decimal::Hundredths;
@@ -28,21 +29,25 @@ impl Model for Value {
 }
 
 impl Value {
-    // The value of so many hundredths, where they are in range.
-    pub(crate) fn new(hundredths: u32) -> Option<Value>
-        ensures { result ≡ value_of hundredths }
-    {
-        if hundredths > 99_999 {
-            return None;
-        }
-        Some(Value { hundredths })
-    }
-
     pub(crate) fn hundredths(self) -> u32
         ensures value { result ≡ self }
         ensures range { result ≤ 99999 }
     {
         self.hundredths
+    }
+}
+
+// The value of so many hundredths, where they are in range.
+impl TryFrom<u32> for Value {
+    type Error = NoValue;
+
+    ghost try_from_gives = { λ n r. result_ok r ≡ value_of n };
+
+    fn try_from(hundredths: u32) -> Result<Value, NoValue> {
+        if hundredths > 99_999 {
+            return Err(NoValue);
+        }
+        Ok(Value { hundredths })
     }
 }
 
@@ -72,11 +77,9 @@ impl Error for NoValue {}
 impl FromStr for Value {
     type Err = NoValue;
 
-    ghost from_str_gives = { ReadsValue };
+    ghost from_str_gives = { λ text r. result_ok r ≡ value_in text };
 
     fn from_str(text: &str) -> Result<Value, NoValue> {
-        hundredths(text.as_bytes())
-            .and_then(Value::new)
-            .ok_or(NoValue)
+        Value::try_from(hundredths(text.as_bytes()).ok_or(NoValue)?)
     }
 }

@@ -9,8 +9,7 @@ use Rattle.pile.specs.declared.guideline.Guideline.{Guideline}
 use Rattle.pile.specs.declared.guideline.Guideline.TheVariants.{Swiss, German}
 use Rattle.pile.specs.declared.choice.LayerKind.{LayerKind}
 use Rattle.pile.specs.declared.choice.LayerKind.TheVariants.{Side, Drift}
-use Rattle.rulebook.specs.declared.house_rule.HouseRule.{HouseRule}
-use Rattle.rulebook.specs.HouseRules.{house_rule}
+use Rattle.pile.specs.declared.choice.LayerChoice.{LayerChoice}
 use Rattle.pile.specs.declared.pile.Pile.{Pile}
 use Rattle.pile.specs.declared.reasons.RulesError.{RulesError}
 use Rattle.pile.specs.declared.reasons.RulesError.TheVariants.{Wrong, NoMemory}
@@ -30,14 +29,14 @@ kind_named name =
     else None
 
 -- a kind, a k and a level; the first that is missing is told
-abbrev pub chosen : Option LayerKind → Option ℕ → Option ℕ → Result (HouseRule LayerKind) Reason
+abbrev pub chosen : Option LayerKind → Option ℕ → Option ℕ → Result LayerChoice Reason
 chosen None n l = Err UnknownLayer
 chosen (Some d) None l = Err WrongK
 chosen (Some d) (Some n) None = Err WrongLevel
-chosen (Some d) (Some n) (Some l) = Ok (house_rule d n l)
+chosen (Some d) (Some n) (Some l) = Ok (record { kind = d; k = n; level = l })
 
 -- a layer has just three fields
-abbrev pub layer_from : List (List ℕ) → Result (HouseRule LayerKind) Reason
+abbrev pub layer_from : List (List ℕ) → Result LayerChoice Reason
 layer_from [] = Err WrongFields
 layer_from (name ∷ []) = Err WrongFields
 layer_from (name ∷ (n ∷ [])) = Err WrongFields
@@ -45,19 +44,19 @@ layer_from (name ∷ (n ∷ (l ∷ []))) = chosen (kind_named name) (number_in n
 layer_from (name ∷ (n ∷ (l ∷ (fourth ∷ more)))) = Err WrongFields
 
 -- `:` is 58
-abbrev pub layer_in : List ℕ → Result (HouseRule LayerKind) Reason
+abbrev pub layer_in : List ℕ → Result LayerChoice Reason
 layer_in part = layer_from (parts 58 part)
 
 -- what a text names: a guideline and the layers on it, lowest first; or the place of the first part that is wrong, and why
 abbrev pub Rules : Type 0
-Rules = Result (Guideline × List (HouseRule LayerKind)) (ℕ × Reason)
+Rules = Result (Guideline × List LayerChoice) (ℕ × Reason)
 
-abbrev pub laid : Result (HouseRule LayerKind) Reason → ℕ → (HouseRule LayerKind → Rules) → Rules
+abbrev pub laid : Result LayerChoice Reason → ℕ → (LayerChoice → Rules) → Rules
 laid (Ok layer) place on = on layer
 laid (Err reason) place on = Err (place, reason)
 
 -- the layers that the parts name, on those that are there
-abbrev pub layers_on : Guideline → List (HouseRule LayerKind) → List (ℕ × List ℕ) → Rules
+abbrev pub layers_on : Guideline → List LayerChoice → List (ℕ × List ℕ) → Rules
 layers_on base layers [] = Ok (base, layers)
 layers_on base layers ((place, part) ∷ more) = laid (layer_in part) place (λ layer. layers_on base (layers ++ (layer ∷ [])) more)
 

@@ -22,11 +22,11 @@ fn layer_in(part: &[u8]) -> Result<LayerChoice, Reason>
     ) else {
         return Err(Reason::WrongFields);
     };
-    Ok(LayerChoice::new(
-        LayerKind::try_from(name.bytes)?,
-        number(k.bytes).ok_or(Reason::WrongK)?,
-        number(level.bytes).ok_or(Reason::WrongLevel)?,
-    ))
+    Ok(LayerChoice {
+        kind: LayerKind::try_from(name.bytes)?,
+        k: number(k.bytes).ok_or(Reason::WrongK)?,
+        level: number(level.bytes).ok_or(Reason::WrongLevel)?,
+    })
 }
 
 // The pile that a text names.

@@ -5,7 +5,7 @@
 //     value TEXT
 #![tactic(auto)]
 
-use anyhow::anyhow;
+use anyhow::{Context, anyhow};
 use pile::{Reason, RulesError, read_rules};
 use rulebook::Rulebook;
 use std::alloc::Global;
@@ -13,7 +13,9 @@ use text::hundredths;
 
 fn verdict_case(heap: Global, text: &str) -> anyhow::Result<String> {
     let mut words = text.split_whitespace();
-    let mut rules = read_rules(heap, words.next().unwrap_or("").as_bytes())?;
+    let mut rules = read_rules(heap, words.next().unwrap_or("").as_bytes())
+        .ok()
+        .context("no such rules")?;
     let unit = words.next().unwrap_or("").parse::<u32>()?;
     let window: Vec<i32> = words
         .map(|word| -> anyhow::Result<i32> { Ok(word.parse::<i32>()?) })

@@ -23,10 +23,9 @@ holds_of_newest condition k window = nat_le k (length window) && condition (take
 abbrev pub raised : (List ℤ → Bool) → ℕ → Verdict → List ℤ → Verdict → Verdict
 raised condition k level window below = if holds_of_newest condition (counted_k k) window then higher level below else below
 
--- a condition with a k and a level, as they are given
 abbrev pub house_rule : {C : Type 0} → C → ℕ → ℕ → HouseRule C
-house_rule c n l = record { condition = c; k = n; level = l }
+house_rule c n level = record { condition = c; k = n; level = counted_level level }
 
 -- the same, of a rule that is held in a value; `found` is what its condition means
 abbrev pub raised_by : {C : Type 0} → (C → List ℤ → Bool) → HouseRule C → List ℤ → Verdict → Verdict
-raised_by found rule = raised (found rule.condition) rule.k (counted_level rule.level)
+raised_by found rule = raised (found rule.condition) rule.k rule.level

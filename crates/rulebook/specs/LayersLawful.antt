@@ -1,4 +1,4 @@
--- A layer on a lawful meaning is lawful. It stands in specs/, since a ghost member imports from there alone.
+-- A layer on a lawful meaning is lawful. It stands in specs/, since a ghost member takes nothing else of its crate.
 -- Assumes nothing.
 use Rattle.std.specs.Prelude.{◌≡◌, ℕ, ◌≤◌, Bool, false, List, [], length, take, ℤ, nat_le}
 use Rattle.std.proofs.Common.{ap, ◌∙◌, arith}

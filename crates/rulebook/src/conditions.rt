@@ -49,7 +49,7 @@ impl Condition for Drift {
     }
 }
 
-// The newest come first, so each that rises is above the one behind it.
+// The newest come first, so each that rises is above the one behind it. Again each chain has its own function.
 fn are_rising(newest: &[i32]) -> bool
     ensures { result ≡ rising (reverse newest.now) }
 {

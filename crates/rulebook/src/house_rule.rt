@@ -5,13 +5,12 @@ ghost use Rattle.rulebook.specs.HouseRules.{counted_k, counted_level, holds_of_n
 use crate::conditions::Condition;
 use crate::verdict::Verdict;
 
-// A condition with its k and its level, as they were given: callers may give any numbers, and a narrower type would ask more of
-// them. They count as `counted_k` and `counted_level` say.
+// A condition with its k and its level. The k is kept as it was given, and counts as `counted_k` says.
 #[derive(Clone, Copy)]
 pub struct HouseRule<C> {
-    pub condition: C,
-    pub k: u32,
-    pub level: u32,
+    pub(crate) condition: C,
+    pub(crate) k: u32,
+    pub(crate) level: Verdict,
 }
 
 // A k below 5 counts as 5, above 12 as 12.
@@ -21,7 +20,8 @@ fn counted_k(k: u32) -> usize
     k.clamp(5, 12) as usize
 }
 
-// A level is 1 or 2; any other number counts as 1.
+// A level is 1 or 2; any other number counts as 1. It is a number, since a narrower type would ask more of callers; and no
+// `From<u32>`, since 0 counts as a warning here, while the verdict of number 0 is fit.
 fn counted_level(level: u32) -> Verdict
     ensures { result ≡ counted_level level }
 {
@@ -41,13 +41,14 @@ fn holds_of_newest<C: Condition>(condition: &C, k: usize, window: &[i32]) -> boo
 }
 
 impl<C: Condition> HouseRule<C> {
+    // The level is a number: a narrower type would ask more of callers.
     pub fn new(condition: C, k: u32, level: u32) -> HouseRule<C>
         ensures { result ≡ house_rule condition k level }
     {
         HouseRule {
             condition,
             k,
-            level,
+            level: counted_level(level),
         }
     }
 
@@ -56,7 +57,7 @@ impl<C: Condition> HouseRule<C> {
         ensures { result ≡ raised_by C.found self.now window.now below }
     {
         if holds_of_newest(&self.condition, counted_k(self.k), window) {
-            counted_level(self.level).higher(below)
+            self.level.higher(below)
         } else {
             below
         }

@@ -7,6 +7,7 @@ use crate::verdict::Verdict;
 
 // A rulebook judges the newest control of an assay. The unit stands for three standard deviations; the window has the
 // deviations of the controls, newest first.
+// Unit and window are two parameters, here and in what a rulebook calls: others write rulebooks for this question as it is.
 pub trait Rulebook {
     // What the rulebook means: a verdict for each unit and window.
     ghost meaning: { Self → Meaning };

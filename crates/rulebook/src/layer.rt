@@ -1,6 +1,5 @@
 // A layer on a rulebook: a house rule over the verdict below. It can raise a verdict, and never lowers one.
 ghost use Rattle.std.specs.Prelude.{◌≡◌};
-ghost use Rattle.rulebook.specs.HouseRules.{counted_level};
 ghost use Rattle.rulebook.specs.Layers.{layered, side_layer, drift_layer, layer_meaning};
 ghost use Rattle.rulebook.specs.Meanings.{LiesOn};
 ghost use Rattle.rulebook.specs.LayersLawful.{layered_lawful};
@@ -24,7 +23,7 @@ pub type DriftLayer<B> = Layer<Drift, B>;
 impl<C: Condition, B: Rulebook> Rulebook for Layer<C, B> {
     ghost meaning = { layer_meaning C.found B.meaning };
 
-    ghost lawful = { λ b. layered_lawful (C.found b.rule.condition) b.rule.k (counted_level b.rule.level) (B.meaning b.below) (B.lawful b.below) };
+    ghost lawful = { λ b. layered_lawful (C.found b.rule.condition) b.rule.k b.rule.level (B.meaning b.below) (B.lawful b.below) };
 
     fn judge(&mut self, unit: u32, window: &[i32]) -> Verdict {
         let below = self.below.judge(unit, window);
@@ -35,7 +34,7 @@ impl<C: Condition, B: Rulebook> Rulebook for Layer<C, B> {
 impl<C: Condition, B: Rulebook> Layer<C, B> {
     // A house rule laid on a rulebook. It means the rule over what lies below, and is never milder than that.
     pub fn new(rule: HouseRule<C>, below: B) -> Layer<C, B>
-        ensures meaning { ⟦<Layer<C, B> as Rulebook>⟧.meaning result ≡ layered (C.found rule.condition) rule.k (counted_level rule.level) (B.meaning below) }
+        ensures meaning { ⟦<Layer<C, B> as Rulebook>⟧.meaning result ≡ layered (C.found rule.condition) rule.k rule.level (B.meaning below) }
         ensures never_milder { LiesOn (⟦<Layer<C, B> as Rulebook>⟧.meaning result) (B.meaning below) }
     {
         Layer { rule, below }
@@ -50,7 +49,8 @@ impl<C: Condition, B: Rulebook> Layer<C, B> {
     }
 }
 
-// The side layer: when the newest k deviations are all above 0 or all below 0.
+// The side layer: when the newest k deviations are all above 0 or all below 0. Its level is a number: a narrower type would ask
+// more of callers. It stands beside `Layer::new`, since only a function at this type can promise to mean the side layer.
 pub fn side_layer<B: Rulebook>(k: u32, level: u32, below: B) -> SideLayer<B>
     ensures meaning { ⟦<SideLayer<B> as Rulebook>⟧.meaning result ≡ side_layer k level (B.meaning below) }
     ensures never_milder { LiesOn (⟦<SideLayer<B> as Rulebook>⟧.meaning result) (B.meaning below) }
@@ -58,7 +58,8 @@ pub fn side_layer<B: Rulebook>(k: u32, level: u32, below: B) -> SideLayer<B>
     Layer::new(HouseRule::new(Side, k, level), below)
 }
 
-// The drift layer: when the newest k deviations, from oldest to newest, rise strictly or fall strictly.
+// The drift layer: when the newest k deviations, from oldest to newest, rise strictly or fall strictly. Its level is a number, and
+// it stands beside `Layer::new`, for the same reasons.
 pub fn drift_layer<B: Rulebook>(k: u32, level: u32, below: B) -> DriftLayer<B>
     ensures meaning { ⟦<DriftLayer<B> as Rulebook>⟧.meaning result ≡ drift_layer k level (B.meaning below) }
     ensures never_milder { LiesOn (⟦<DriftLayer<B> as Rulebook>⟧.meaning result) (B.meaning below) }

@@ -35,8 +35,8 @@ impl<'a> Layout<'a> {
         u32::from(self.header.row_count)
     }
 
-    // The fields of the row of that number, counted from 0. Three methods ask that the number is one of the sheet's: a type
-    // that says so would be made anew at each turn of their loops.
+    // The fields of the row of that number, counted from 0. Three methods ask that a number is at most the count, or below it: a
+    // type that says so would be made anew at each turn of their loops.
     pub(crate) fn fields(&self, row: u32) -> Fields
         requires { row < self.now.header.row_count }
         ensures { result ≡ row_fields self.now.bytes.now self.now.header row }

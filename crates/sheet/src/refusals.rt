@@ -24,7 +24,7 @@ pub enum Refusal {
 }
 
 impl Refusal {
-    // A match: an enum's cases can state numbers of their own only where none has a field.
+    // A match: cases with fields have no numbers that `as` could read.
     pub fn number(&self) -> u32
         ensures { result ≡ (told self.now).0 }
     {

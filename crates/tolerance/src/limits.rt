@@ -12,7 +12,7 @@ fn distance_to_nearer_end(target: u32, lower: u32, upper: u32) -> u32
 }
 
 // The limit in thousandths of a hundredth of the unit: the smaller of the table's tolerance and the range's. Its four numbers
-// come one by one, as callers have them from different places; any will do.
+// come one by one: a type for them would ask more of callers, who may give any.
 pub fn limit(number: u16, target: u32, lower: u32, upper: u32) -> u64
     ensures { result ≡ limit_of number target lower upper }
 {

@@ -1,5 +1,5 @@
 use Rattle.std.proofs.Common.{vec_items}
-use Rattle.pile.proofs.PileSteps.{piled_never_milder}
+use Rattle.pile.specs.PileLaws.{piled_never_milder}
 use Rattle.pile.proofs.pile.Pile.base.Goals as goal
 
 pub returns-clause-never_milder : goal.returns-clause-never_milder

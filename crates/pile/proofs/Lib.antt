@@ -1,2 +1,0 @@
-pub mod KindSteps
-pub mod PileSteps
