@@ -1,6 +1,6 @@
 -- The parts of a text between separators.
 -- Assumes nothing.
-use Rattle.std.specs.Prelude.{◌≡◌, ℕ, ◌+◌, List, [], ◌∷◌, length, Option, MatchOption, ◌==◌}
+use Rattle.std.specs.Prelude.{◌≡◌, ℕ, ◌+◌, min, List, [], ◌∷◌, length, drop, Option, MatchOption, position, unwrap_or, ◌==◌}
 use Rattle.std.specs.Borrow.{Bor}
 use Rattle.std.specs.List.{slice_split}
 
@@ -16,3 +16,11 @@ SplitOnce sep text r = MatchOption r (parts sep text ≡ (text ∷ [])) (λ x. p
 abbrev pub placed : ℕ → List (List ℕ) → List (ℕ × List ℕ)
 placed place [] = []
 placed place (part ∷ more) = (place, part) ∷ placed (place + length part + 1) more
+
+-- how many bytes stand before the first separator; all of them where there is none
+abbrev pub before : ℕ → List ℕ → ℕ
+before sep text = unwrap_or (position (λ b. b == sep) text) (length text)
+
+-- where the part that starts at a place ends: at the next separator, or where the text ends
+abbrev pub part_end : ℕ → List ℕ → ℕ → ℕ
+part_end sep text start = min start (length text) + before sep (drop (min start (length text)) text)

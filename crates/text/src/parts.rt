@@ -1,14 +1,31 @@
 // The parts of a text between separators.
-ghost use Rattle.std.specs.Prelude.{◌≡◌, ◌+◌, ◌^◌, ◌<◌, length, IfSome};
+ghost use Rattle.std.specs.Prelude.{◌≡◌, ◌+◌, ◌^◌, ◌<◌, ◌≤◌, ◌==◌, length, position, IfSome};
 ghost use Rattle.std.specs.Option.{ForSome};
-ghost use Rattle.text.specs.Parts.{SplitOnce};
+ghost use Rattle.text.specs.Parts.{SplitOnce, part_end};
+
+// Where the first separator stands, if there is one.
+fn first_separator(separator: u8, text: &[u8]) -> Option<usize>
+    ensures { result ≡ position (λ b. b == separator) text.now }
+{
+    text.iter().position(|byte| *byte == separator)
+}
+
+// Where the part that starts at that place ends: at the next separator, or where the text ends.
+pub fn end_of_part(separator: u8, text: &[u8], start: usize) -> usize
+    ensures value { result ≡ part_end separator text.now start }
+    ensures within { result ≤ length text.now }
+{
+    let start = start.min(text.len());
+    let rest = &text[start..];
+    start + first_separator(separator, rest).unwrap_or(rest.len())
+}
 
 // What stands before the first separator and what behind it, where there is one.
 pub fn split_once(separator: u8, text: &[u8]) -> Option<(&[u8], &[u8])>
     ensures cut { SplitOnce separator text.now result }
     ensures lengths { IfSome result (λ x. length x.0.now + length x.1.now + 1 ≡ length text.now) }
 {
-    let end = text.iter().position(|byte| *byte == separator)?;
+    let end = first_separator(separator, text)?;
     Some((&text[..end], &text[end + 1..]))
 }
 

@@ -1,8 +1,6 @@
-use Rattle.std.proofs.Common.{◌≡◌, ℕ, ◌+◌, ◌<◌, length, eqb, List, [], ◌∷◌, take, drop, Some, None, position, sym, ap, ◌∙◌, arith, rules, tests}
+use Rattle.std.proofs.Common.{◌≡◌, ℕ, ◌+◌, ◌<◌, length, eqb, List, [], ◌∷◌, take, drop, Some, None, position, sym, ap, ◌∙◌, arith}
 use Rattle.std.specs.List.{position_or_len}
 use Rattle.std.proofs.lemmas.Bool.Decides.{nat_tests}
-use Rattle.std.proofs.lemmas.Iterator.{YieldsList-from_slice}
-use Rattle.std.proofs.lemmas.Iterator.Search.{position_from_yields_List}
 use Rattle.std.proofs.lemmas.List.{take_rest}
 use Rattle.std.proofs.lemmas.List.Splits.{slice_split_none, slice_split_first}
 use Rattle.std.proofs.lemmas.List.Sums.{fails_before_first}
@@ -22,11 +20,9 @@ module _ (sep : ℕ) (text : List ℕ) where
 
 pub returns-in_err-end-clause-cut : goal.returns-in_err-end-clause-cut
 returns-in_err-end-clause-cut c =
-    let place = position_from_yields_List (λ b. eqb b c.args.separator) _ _ c.position.result c.position.ensures.ran (YieldsList-from_slice c.args.text.now (cc)) (λ x b q k. search (rules, tests)) in
-    rw c.from_residual.ensures (one_part c.args.separator c.args.text.now (sym (c.in_err-end.was) ∙ place))
+    rw c.from_residual.ensures (one_part c.args.separator c.args.text.now (sym (c.in_err-end.was) ∙ c.first_separator.ensures))
 
 pub returns-clause-cut : goal.returns-clause-cut
 returns-clause-cut c =
-    let place = position_from_yields_List (λ b. eqb b c.args.separator) _ _ c.position.result c.position.ensures.ran (YieldsList-from_slice c.args.text.now (cc)) (λ x b q k. search (rules, tests)) in
-    cut_at c.args.separator c.args.text.now c.in_ok-end.end (sym (c.in_ok-end.was) ∙ place)
+    cut_at c.args.separator c.args.text.now c.in_ok-end.end (sym (c.in_ok-end.was) ∙ c.first_separator.ensures)
     ∙ ap (λ rest. take c.in_ok-end.end c.args.text.now ∷ parts c.args.separator rest) (sym (take_rest c.args.text.now (c.in_ok-end.end + 1)))
