@@ -1,5 +1,5 @@
 // A sheet that is written out field by field. Nothing in it need be right.
-use anyhow::Context;
+use anyhow::anyhow;
 use std::alloc::{AllocError, Global};
 use std::error::Error;
 use std::str::FromStr;
@@ -34,7 +34,10 @@ pub(crate) fn parsed<T: FromStr>(word: Option<&str>) -> anyhow::Result<T>
 where
     T::Err: Error,
 {
-    Ok(word.context("a number is missing")?.parse::<T>()?)
+    let Some(word) = word else {
+        return Err(anyhow!("a number is missing"));
+    };
+    Ok(word.parse::<T>()?)
 }
 
 impl FromStr for Line {
@@ -54,15 +57,37 @@ impl FromStr for Line {
 }
 
 impl Line {
-    // Writes the row's 21 bytes behind the others.
-    fn write(&self, rows: &mut Vec<u8>) -> Result<(), AllocError> {
-        rows.extend_from_slice(&self.table.to_be_bytes())?;
-        rows.extend_from_slice(&self.target.to_be_bytes())?;
-        rows.extend_from_slice(&self.lower.to_be_bytes())?;
-        rows.extend_from_slice(&self.upper.to_be_bytes())?;
-        rows.extend_from_slice(&100_000u32.to_be_bytes())?;
-        rows.push(self.name_length)?;
-        rows.extend_from_slice(&self.name_offset.to_be_bytes())
+    // The row's 21 bytes.
+    fn bytes(&self) -> [u8; 21] {
+        let [n1, n0] = self.table.to_be_bytes();
+        let [t3, t2, t1, t0] = self.target.to_be_bytes();
+        let [l3, l2, l1, l0] = self.lower.to_be_bytes();
+        let [u3, u2, u1, u0] = self.upper.to_be_bytes();
+        let [m3, m2, m1, m0] = 100_000u32.to_be_bytes();
+        let [o1, o0] = self.name_offset.to_be_bytes();
+        [
+            n1,
+            n0,
+            t3,
+            t2,
+            t1,
+            t0,
+            l3,
+            l2,
+            l1,
+            l0,
+            u3,
+            u2,
+            u1,
+            u0,
+            m3,
+            m2,
+            m1,
+            m0,
+            self.name_length,
+            o1,
+            o0,
+        ]
     }
 }
 
@@ -92,27 +117,30 @@ impl Draft {
         ]
     }
 
-    // The header is written last, over whatever lies there.
+    // The header is written last, over whatever lies there. Rows beyond the sheet take no room.
     pub(crate) fn bytes(&self, heap: Global) -> Result<Vec<u8>, AllocError> {
-        let mut rows = Vec::new(heap);
-        for line in self.lines.iter() {
-            line.write(&mut rows)?;
-        }
-        let mut header = Vec::new(heap);
-        for field in self.header() {
-            header.extend_from_slice(&field.to_be_bytes())?;
-        }
         let mut sheet = vec![in heap; 0u8; usize::from(self.length)]?;
-        put(&mut sheet, self.rows_at, &rows);
-        put(&mut sheet, self.names_at, self.names.as_bytes());
-        put(&mut sheet, 0, &header);
+        let places = usize::from(self.rows_at)..sheet.len();
+        for (at, line) in places.step_by(21).zip(self.lines.iter()) {
+            put(&mut sheet, at, &line.bytes());
+        }
+        put(
+            &mut sheet,
+            usize::from(self.names_at),
+            self.names.as_bytes(),
+        );
+        for (at, field) in (0..10).step_by(2).zip(self.header()) {
+            put(&mut sheet, at, &field.to_be_bytes());
+        }
         Ok(sheet)
     }
 }
 
 // Writes the bytes from that place on, as far as there is room.
-fn put(sheet: &mut [u8], at: u16, bytes: &[u8]) {
-    for (place, byte) in sheet.iter_mut().skip(usize::from(at)).zip(bytes) {
-        *place = *byte;
+fn put(sheet: &mut [u8], at: usize, bytes: &[u8]) {
+    if let Some(room) = sheet.get_mut(at..) {
+        for (place, byte) in room.iter_mut().zip(bytes) {
+            *place = *byte;
+        }
     }
 }

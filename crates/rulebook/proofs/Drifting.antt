@@ -36,7 +36,7 @@ module _ (f : ℤ → ℤ → Bool) where
   one_more (x ∷ []) b a = swapped (f x b) (f b a) true
   one_more (x ∷ (y ∷ xs)) b a = ap (λ t. f x y && t) (one_more (y ∷ xs) b a) ∙ swapped (f x y) (f b a) (all_follow f ((y ∷ xs) ++ (b ∷ [])))
 
-  read_backwards : (newest : List ℤ) → all_follow (λ newer older. f older newer) newest ≡ all_follow f (reverse newest)
+  pub read_backwards : (newest : List ℤ) → all_follow (λ newer older. f older newer) newest ≡ all_follow f (reverse newest)
   read_backwards [] = refl
   read_backwards (a ∷ []) = refl
   read_backwards (a ∷ (b ∷ es)) = ap (λ t. f b a && t) (rw reverse-cons at (read_backwards (b ∷ es))) ∙ sym (rw (reverse-cons, reverse-cons) (one_more (reverse es) b a))

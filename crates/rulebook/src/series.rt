@@ -27,13 +27,15 @@ pub fn judge_series<B: Rulebook>(
     ensures verdicts { verdicts.new ≡ over (series (B.meaning rulebook.old) unit deviations.now) verdicts.old }
     ensures same { SameMeaning (B.meaning rulebook.old) (B.meaning rulebook.new) }
 {
+    // read first, since only then does a proof know that a signed number of a slice has 32 bits; in a loop of its own, which
+    // the compiler drops, so that a call costs by the places and not by all deviations
+    for deviation in deviations {
+        let _deviation = *deviation;
+    }
     // by place, since each control is judged by the deviations from its place on; over `iter().enumerate().rev()` the proof
     // stays open, and lent slices are what a caller without a heap has
-    for place in (0..deviations.len()).rev() {
-        // read, since only then does a proof know that a signed number of a slice has 32 bits
-        let _deviation = deviations[place];
-        if place < verdicts.len() {
-            verdicts[place] = rulebook.judge(unit, newest(&deviations[place..]));
-        }
+    let count = deviations.len().min(verdicts.len());
+    for place in (0..count).rev() {
+        verdicts[place] = rulebook.judge(unit, newest(&deviations[place..]));
     }
 }

@@ -43,7 +43,10 @@ row_right s h f k e =
     let right = none_holds k (unknown_table f) (wrong_range f) (wrong_name s h f) (repeated_name s h f k) e in
     (in_range f right.0, no_other_byte s h f right.1)
 
--- each row of an accepted sheet has its range right, and its name has no other byte
+-- no row of an accepted sheet is refused
+pub row_not_refused : (s : List ℕ) (k : ℕ) → refusal_of s ≡ None → k < row_count s → refusal_at s (header_of s) k ≡ None
+row_not_refused s k a there = none_below (refusal_at s (header_of s)) (row_count s) k (option_or_none _ _ a).1 there
+
+-- so each has its range right, and its name has no other byte
 pub row_accepted : (s : List ℕ) (k : ℕ) → refusal_of s ≡ None → k < row_count s → InRange (row_fields s (header_of s) k) × (has_other_byte (name_of s (header_of s) k) ≡ false)
-row_accepted s k a there =
-    row_right s (header_of s) _ k (none_below (refusal_at s (header_of s)) (row_count s) k (option_or_none _ _ a).1 there)
+row_accepted s k a there = row_right s (header_of s) _ k (row_not_refused s k a there)

@@ -1,3 +1,4 @@
 pub mod Below
+pub mod FirstOf
 pub mod Text
 pub mod Accepted

@@ -1,5 +1,5 @@
 // Hands out the rows and the names of a sheet that was accepted.
-ghost use Rattle.std.specs.Prelude.{◌≡◌, None, IfSome};
+ghost use Rattle.std.specs.Prelude.{◌≡◌, None, false, IfSome};
 ghost use Rattle.sheet.specs.Acceptance.{refusal_of};
 
 use crate::fields::Fields;
@@ -15,6 +15,7 @@ pub struct Sheet<'a> {
 
 impl<'a> Sheet<'a> {
     ghost use Rattle.sheet.specs.Reader.{sheet_bytes, row_count, HandsOut, RightFields, RightRow, RightName};
+    ghost use Rattle.sheet.specs.Names.{has_other_byte};
     ghost use Rattle.sheet.specs.Rows.{InRange, RowInRange};
 
     pub fn row_count(&self) -> u32
@@ -43,10 +44,11 @@ impl<'a> Sheet<'a> {
         Some(self.find(row)?.to_row())
     }
 
-    // The name of the row of that number, as a part of the sheet.
+    // The name of the row of that number, as a part of the sheet, of A to Z and 0 to 9.
     #[tactic(auto, using(crate::proofs::Accepted::row_accepted))]
     pub fn name(&self, row: u32) -> Option<Name<'a>>
-        ensures { HandsOut RightName self.now row result }
+        ensures name { HandsOut RightName self.now row result }
+        ensures letters { IfSome result (λ name. has_other_byte name.bytes.now ≡ false) }
     {
         let fields = self.find(row)?;
         Some(Name {

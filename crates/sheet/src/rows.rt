@@ -1,5 +1,5 @@
 // What a sheet hands out: a row with its limit, and a name with its place.
-ghost use Rattle.std.specs.Prelude.{◌≡◌, false};
+ghost use Rattle.std.specs.Prelude.{◌≡◌, false, [], IsUtf8};
 ghost use Rattle.sheet.specs.Names.{has_other_byte};
 ghost use Rattle.sheet.specs.Rows.{InRange, RowInRange, row_from};
 
@@ -18,21 +18,23 @@ pub struct Row {
     pub limit: u32,
 }
 
-// An assay's name: a part of the sheet, of A to Z and 0 to 9, and where it starts, from the sheet's first byte.
+// An assay's name: a part of the sheet, and where it starts, from the sheet's first byte. A sheet hands out names of A to Z and
+// 0 to 9; the type does not ask it, so that a caller may make a name of any bytes.
 #[derive(Clone, Copy)]
 pub struct Name<'a> {
     pub place: usize,
     pub bytes: &'a [u8],
-    pub ghost no_other_byte: { has_other_byte bytes.now ≡ false },
 }
 
 impl<'a> Name<'a> {
-    // The same bytes as text.
+    // The same bytes as text, as of each name that a sheet hands out; nothing where they are no text.
     #[tactic(auto, using(crate::proofs::Text::name_is_text))]
     pub fn text(&self) -> &'a str
-        ensures { result.now ≡ self.now.bytes.now }
+        ensures letters { has_other_byte self.now.bytes.now ≡ false → result.now ≡ self.now.bytes.now }
+        ensures text { IsUtf8 self.now.bytes.now → result.now ≡ self.now.bytes.now }
+        ensures none { ¬ (IsUtf8 self.now.bytes.now) → result.now ≡ [] }
     {
-        std::str::from_utf8(self.bytes).unwrap()
+        std::str::from_utf8(self.bytes).unwrap_or("")
     }
 }
 
@@ -52,5 +54,20 @@ impl Fields {
             last_minute: self.last_minute,
             limit: limit(self.table, self.target, self.lower, self.upper) as u32,
         }
+    }
+}
+
+#[cfg(test)]
+mod tests {
+    use super::*;
+    use std::test::Fail;
+
+    #[test]
+    fn a_name_may_be_made_of_any_bytes(rt: HostRuntime) -> Result<(), Fail> {
+        for (bytes, text) in [(b"K".as_slice(), "K"), (b"\xff".as_slice(), "")] {
+            let name = Name { place: 31, bytes };
+            assert_eq!(rt; name.text(), text);
+        }
+        Ok(())
     }
 }

@@ -6,4 +6,4 @@ mod numbers;
 mod parts;
 
 pub use numbers::{hundredths, number};
-pub use parts::{Part, Parts, end_of_part, split_once};
+pub use parts::{Part, Parts, end_of_part, is_same, split_once};

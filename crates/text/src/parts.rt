@@ -1,6 +1,7 @@
 // The parts of a text between separators.
 ghost use Rattle.std.specs.Prelude.{◌≡◌, ◌+◌, ◌^◌, ◌<◌, ◌≤◌, ◌==◌, length, position, IfSome};
 ghost use Rattle.std.specs.Option.{ForSome};
+ghost use Rattle.std.specs.Str.{bytes_eq};
 ghost use Rattle.text.specs.Parts.{SplitOnce, part_end};
 
 // Where the first separator stands, if there is one.
@@ -27,6 +28,13 @@ pub fn split_once(separator: u8, text: &[u8]) -> Option<(&[u8], &[u8])>
 {
     let end = first_separator(separator, text)?;
     Some((&text[..end], &text[end + 1..]))
+}
+
+// Whether two texts have the same bytes.
+pub fn is_same(a: &[u8], b: &[u8]) -> bool
+    ensures { result ≡ bytes_eq a.now b.now }
+{
+    a == b
 }
 
 // A part of a text, and where its first byte stands in the text.

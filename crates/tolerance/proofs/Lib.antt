@@ -1,2 +1,3 @@
+pub mod FirstThat
 pub mod LimitBound
 pub mod RangesApart

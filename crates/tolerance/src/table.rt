@@ -1,5 +1,6 @@
 // The table of tolerances: how far a single value may lie from its target, by analyte and target range.
 ghost use Rattle.std.specs.Prelude.{◌≡◌, find};
+ghost use Rattle.std.specs.Option.{option_copied};
 ghost use Rattle.tolerance.specs.Table.{holds_for, tolerances, tolerance_for, OnlyRow, listed};
 
 // One target range of one analyte. Targets are in hundredths of the analyte's unit.
@@ -92,11 +93,11 @@ impl ToleranceRow {
     }
 }
 
-// The first of the rows that holds for that table number and target.
-fn first_holding(rows: &[ToleranceRow], number: u16, target: u32) -> Option<ToleranceRow>
-    ensures { result ≡ find (λ row. holds_for row number target) rows.now }
+// The first of the rows that holds for that table number and target; lent, so that the rows passed over are not copied.
+fn first_holding(rows: &[ToleranceRow], number: u16, target: u32) -> Option<&ToleranceRow>
+    ensures { option_copied result ≡ find (λ row. holds_for row number target) rows.now }
 {
-    rows.iter().copied().find(|row| row.holds(number, target))
+    rows.iter().find(|row| row.holds(number, target))
 }
 
 // The row of the table for that number whose range holds the target, if there is one.
@@ -105,7 +106,8 @@ pub fn lookup(number: u16, target: u32) -> Option<ToleranceRow>
     ensures row { result ≡ tolerance_for number target }
     ensures only { OnlyRow tolerances number target result }
 {
-    first_holding(&TOLERANCES, number, target)
+    let row = first_holding(&TOLERANCES, number, target)?;
+    Some(*row)
 }
 
 // Whether the table has that number, for whatever target.
