@@ -49,6 +49,7 @@ impl<B: Rulebook> Pile<B> {
     }
 
     // The base. The whole pile is never milder than it.
+    #[tactic(auto, using(crate::specs::PileLaws::piled_never_milder))]
     pub fn base(&self) -> &B
         ensures base { result.now ≡ self.now.base }
         ensures never_milder { NeverMilder (pile_meaning B.meaning self.now) (B.meaning result.now) }

@@ -1,4 +1,4 @@
--- The numbers below n, in their order: does one of them pass, and what is found at the first at which something is.
+-- The numbers below n, in their order: whether one of them passes, and what is found at the first at which something is found.
 -- Assumes nothing.
 use Rattle.std.specs.Prelude.{ℕ, zero, suc, Bool, false, ◌||◌, None, Option}
 use Rattle.std.specs.Option.{option_or}

@@ -27,7 +27,7 @@ pub struct Name<'a> {
 }
 
 impl<'a> Name<'a> {
-    // The same bytes as text, as of each name that a sheet hands out; nothing where they are no text.
+    // The same bytes as text, where they are UTF-8, as those of each name that a sheet hands out; else the empty text.
     #[tactic(auto, using(crate::proofs::Text::name_is_text))]
     pub fn text(&self) -> &'a str
         ensures letters { has_other_byte self.now.bytes.now ≡ false → result.now ≡ self.now.bytes.now }
